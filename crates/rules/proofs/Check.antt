@@ -1,0 +1,174 @@
+-- The check is two sums modulo 65521 (`check-mod`), and may be brought up to date byte by byte (`check-updated`).
+use Prim.Native.Nat.{ℕ, zero, suc, _+_, _-_, _*_, _/_, _%_, _^_, _≤_, _<_}
+use mathlib.Core.Path.{_≡_, refl, sym, ap, ap₂, _∙_, subst}
+use mathlib.Core.Logic.{_⊎_, inl, inr}
+use mathlib.Core.List.{List, [], _∷_, _++_, append-assoc}
+use native.Mathlib.Nat.{mod-lt, suc-mul, mul-add, add-mul, mul-left-comm, mul-comm, mul-zero, sub-zero, suc-sub-suc, div-add-mod, zero-mul}
+use native.Mathlib.Decide.{decLt}
+use native.Mathlib.Omega.{arith}
+use lib.ListN.{length, take, drop, getD, set, length-append, length-take, length-drop, length-set}
+use lib.Dec.{ltb}
+use borrow.Author.Tests.{ltb-true, ltb-false, lt-ltb, le-ltb}
+use lib.Seq.{set-getD}
+use lib.IntN.{pos, negsuc, negℤ, _-ℤ_, _*ℤ_}
+use Rattle.rules.specs.Words.{Bytes}
+use Rattle.rules.specs.Check.{check, high, low, modulus, moved, reduced, residue, updated}
+use Rattle.rules.specs.Runs.{covered}
+use Rattle.rules.proofs.Bool.{split}
+use Rattle.rules.proofs.Words.{bytes-set}
+use Rattle.rules.proofs.Sets.{sets-right}
+
+-- ---- the sums by the remainder
+
+unfoldable pub lowMod : ℕ → List ℕ → ℕ
+lowMod a [] = a
+lowMod a (b ∷ bs) = lowMod ((a + b) % 65521) bs
+
+unfoldable pub highMod : ℕ → ℕ → List ℕ → ℕ
+highMod a h [] = h
+highMod a h (b ∷ bs) = highMod ((a + b) % 65521) ((h + (a + b) % 65521) % 65521) bs
+
+-- a comparison and a subtraction, of a sum of two numbers of which one is below the modulus and the other at most it
+pub reduced-mod : (x : ℕ) → x < 2 * modulus → reduced x ≡ x % modulus
+unfolding reduced
+reduced-mod x h =
+    split (ltb x modulus)
+    (λ e. let k : x < modulus = ltb-true x modulus e in rw e (omega arith))
+    (λ e. let k : modulus ≤ x = ltb-false x modulus e in rw e (omega arith))
+
+pub low-mod : (a : ℕ) (bs : List ℕ) → a < modulus → Bytes bs → low a bs ≡ lowMod a bs
+unfolding low lowMod
+low-mod a [] h k = refl
+low-mod a (b ∷ bs) h k =
+    let c = k 0 in
+    let e : reduced (a + b) ≡ (a + b) % 65521 = (reduced-mod (a + b) (omega arith)) in
+    ap (λ (x : ℕ). low x bs) e ∙ low-mod ((a + b) % 65521) bs (mod-lt (a + b) {m = 65521} (omega arith)) (λ i. k (suc i))
+
+pub high-mod : (a h : ℕ) (bs : List ℕ) → a < modulus → h < modulus → Bytes bs → high a h bs ≡ highMod a h bs
+unfolding high highMod
+high-mod a h [] l m k = refl
+high-mod a h (b ∷ bs) l m k =
+    let c = k 0 in
+    let l′ : (a + b) % 65521 < 65521 = mod-lt (a + b) {m = 65521} (omega arith) in
+    let e : reduced (a + b) ≡ (a + b) % 65521 = (reduced-mod (a + b) (omega arith)) in
+    let f : reduced (h + (a + b) % 65521) ≡ (h + (a + b) % 65521) % 65521 = (reduced-mod (h + (a + b) % 65521) (omega arith)) in
+    ap (λ (x : ℕ). high x (reduced (h + x)) bs) e ∙ ap (λ (x : ℕ). high ((a + b) % 65521) x bs) f
+    ∙ high-mod ((a + b) % 65521) ((h + (a + b) % 65521) % 65521) bs l′ (mod-lt (h + (a + b) % 65521) {m = 65521} (omega arith)) (λ i. k (suc i))
+
+-- THE CHECK IS TWO SUMS MODULO 65521
+pub check-mod : (bs : List ℕ) → Bytes bs → check bs ≡ highMod 1 0 bs * 65536 + lowMod 1 bs
+unfolding check
+check-mod bs k = ap₂ (λ (x y : ℕ). x * 65536 + y) (high-mod 1 0 bs (omega arith) (omega arith) k) (low-mod 1 bs (omega arith) k)
+
+-- both sums stay below 65521
+pub low-lt : (a : ℕ) (bs : List ℕ) → a < 65521 → lowMod a bs < 65521
+unfolding lowMod
+low-lt a [] h = h
+low-lt a (b ∷ bs) h = low-lt ((a + b) % 65521) bs (mod-lt (a + b) {m = 65521} (omega arith))
+
+pub high-lt : (a h : ℕ) (bs : List ℕ) → h < 65521 → highMod a h bs < 65521
+unfolding highMod
+high-lt a h [] k = k
+high-lt a h (b ∷ bs) k = high-lt ((a + b) % 65521) ((h + (a + b) % 65521) % 65521) bs (mod-lt (h + (a + b) % 65521) {m = 65521} (omega arith))
+
+-- ---- the sums, not reduced
+
+unfoldable total : List ℕ → ℕ
+total [] = 0
+total (b ∷ bs) = b + total bs
+
+-- each byte times its distance from the end
+unfoldable weigh : List ℕ → ℕ
+weigh [] = 0
+weigh (b ∷ bs) = suc (length bs) * b + weigh bs
+
+low-sum : (a : ℕ) (bs : List ℕ) → a < 65521 → lowMod a bs ≡ (a + total bs) % 65521
+unfolding lowMod total
+low-sum a [] h = omega arith
+low-sum a (b ∷ bs) h = low-sum ((a + b) % 65521) bs (omega arith) ∙ omega arith
+
+scale : (l y : ℕ) → l * y ≡ 65521 * (l * (y / 65521)) + l * (y % 65521)
+scale l y = ap (λ z. l * z) (sym (div-add-mod y 65521)) ∙ mul-add l (65521 * (y / 65521)) (y % 65521) ∙ ap (λ z. z + l * (y % 65521)) (mul-left-comm l 65521 (y / 65521))
+
+high-sum : (a h : ℕ) (bs : List ℕ) → h < 65521 → highMod a h bs ≡ (h + length bs * a + weigh bs) % 65521
+unfolding highMod weigh
+high-sum a h [] l = rw zero-mul (omega arith)
+high-sum a h (b ∷ bs) l =
+    high-sum ((a + b) % 65521) ((h + (a + b) % 65521) % 65521) bs (omega arith)
+    ∙ rw (suc-mul (length bs) a, suc-mul (length bs) b) (omega (arith, scale (length bs) (a + b), mul-add (length bs) a b))
+
+-- ---- one byte changes
+
+total-set : (xs : List ℕ) (i v : ℕ) → i < length xs → total (set xs i v) ≡ total (set xs i 0) + v
+unfolding total
+total-set [] i v h = omega arith
+total-set (x ∷ xs) zero v h = omega arith
+total-set (x ∷ xs) (suc i) v h = omega (arith, total-set xs i v (omega arith))
+
+weigh-set : (xs : List ℕ) (i v : ℕ) → i < length xs → weigh (set xs i v) ≡ weigh (set xs i 0) + (length xs - i) * v
+unfolding weigh
+weigh-set [] i v h = omega arith
+weigh-set (x ∷ xs) zero v h = rw (mul-zero, sub-zero) (omega arith)
+weigh-set (x ∷ xs) (suc i) v h = rw (length-set xs i v, length-set xs i 0, suc-sub-suc) (omega (arith, weigh-set xs i v (omega arith)))
+
+-- a difference of two numbers, by its sign
+pub difference : (u v : ℕ) → ((u ≤ v) × (pos v -ℤ pos u ≡ pos (v - u))) ⊎ ((v < u) × (pos v -ℤ pos u ≡ negsuc (u - suc v)))
+difference zero v = inl (omega arith, ap pos (omega arith))
+difference (suc u) v = go (decLt v (suc u))
+  where
+    go : Dec (v < suc u) → ((suc u ≤ v) × (pos v -ℤ pos (suc u) ≡ pos (v - suc u))) ⊎ ((v < suc u) × (pos v -ℤ pos (suc u) ≡ negsuc (suc u - suc v)))
+    go (no h) = let k : suc u ≤ v = omega arith in inl (k, simp (le-ltb v (suc u) k))
+    go (yes h) = inr (h, simp (lt-ltb v (suc u) h))
+
+-- a sum that moves
+moved-sum : (a n u v : ℕ) → moved ((a + n * u) % 65521) n u v ≡ (a + n * v) % 65521
+moved-sum a n u v = go (difference u v)
+  where
+    neg : (p q r : ℕ) → p + r ≡ q → ((a + q) % 65521 + residue (negℤ (pos p))) % 65521 ≡ (a + r) % 65521
+    neg zero q r e = omega arith
+    neg (suc p) q r e = omega arith
+
+    go : ((u ≤ v) × (pos v -ℤ pos u ≡ pos (v - u))) ⊎ ((v < u) × (pos v -ℤ pos u ≡ negsuc (u - suc v))) → moved ((a + n * u) % 65521) n u v ≡ (a + n * v) % 65521
+    go (inl p) =
+        let e : (v - u) * n + n * u ≡ n * v = rw (mul-comm n u, mul-comm n v, ← add-mul (v - u) u n) (ap (λ z. z * n) (omega arith)) in
+        subst (λ z. ((a + n * u) % 65521 + residue (z *ℤ pos n)) % 65521 ≡ (a + n * v) % 65521) (sym (p .1)) (omega arith)
+    go (inr p) =
+        let e : suc (u - suc v) * n + n * v ≡ n * u = rw (mul-comm n u, mul-comm n v, ← add-mul (suc (u - suc v)) v n) (ap (λ z. z * n) (omega arith)) in
+        subst (λ z. ((a + n * u) % 65521 + residue (z *ℤ pos n)) % 65521 ≡ (a + n * v) % 65521) (sym (p .1)) (neg (suc (u - suc v) * n) (n * u) (n * v) e)
+
+-- THE UPDATED CHECK EQUALS THE CHECK OF THE WHOLE: one byte of n, at place i from 0, becomes v
+pub check-updated : (xs : List ℕ) (i v : ℕ) → Bytes xs → v < 256 → i < length xs → check (set xs i v) ≡ updated (check xs) (length xs - i) (getD xs i 0) v
+unfolding updated
+check-updated xs i v hx hv h =
+    let n : ℕ = length xs - i in
+    let u : ℕ = getD xs i 0 in
+    let a : ℕ = length xs + weigh (set xs i 0) in
+    let b : ℕ = 1 + total (set xs i 0) in
+    let old : check xs ≡ (a + n * u) % 65521 * 65536 + (b + 1 * u) % 65521 =
+    subst (λ (l : List ℕ). check l ≡ (a + n * u) % 65521 * 65536 + (b + 1 * u) % 65521) (set-getD xs i 0) (at-place u (hx i)) in
+    let top : check xs / 65536 ≡ (a + n * u) % 65521 = omega arith in
+    let bottom : check xs % 65536 ≡ (b + 1 * u) % 65521 = omega arith in
+    at-place v hv
+    ∙ sym (ap₂ (λ (x y : ℕ). x * 65536 + y) (ap (λ (z : ℕ). moved z n u v) top ∙ moved-sum a n u v) (ap (λ (z : ℕ). moved z 1 u v) bottom ∙ moved-sum b 1 u v))
+  where
+    at-place : (w : ℕ) → w < 256
+        → check (set xs i w) ≡ (length xs + weigh (set xs i 0) + (length xs - i) * w) % 65521 * 65536 + (1 + total (set xs i 0) + 1 * w) % 65521
+    at-place w hw =
+        check-mod (set xs i w) (bytes-set xs i w hx hw)
+        ∙ ap₂ (λ (x y : ℕ). x * 65536 + y)
+        (high-sum 1 0 (set xs i w) (omega arith) ∙ ap (λ (z : ℕ). z % 65521) (rw (length-set xs i w, weigh-set xs i w h) (omega arith)))
+        (low-sum 1 (set xs i w) (omega arith) ∙ ap (λ (z : ℕ). z % 65521) (rw (total-set xs i w h) (omega arith)))
+
+-- a byte of the body, in the bytes that the check covers
+pub covered-set : (h b : List ℕ) (j v : ℕ) → length h ≡ 16 → covered h (set b j v) ≡ set (covered h b) (12 + j) v
+covered-set h b j v e =
+    let f : List ℕ = take 8 h ++ take 4 (drop 12 h) in
+    let l : length f ≡ 12 =
+    length-append (take 8 h) (take 4 (drop 12 h)) ∙ rw (length-take 8 h, length-take 4 (drop 12 h), length-drop 12 h) (omega arith) in
+    sym (append-assoc (take 8 h) (take 4 (drop 12 h)) (set b j v))
+    ∙ sym (ap (λ (x : List ℕ). set x (12 + j) v) (sym (append-assoc (take 8 h) (take 4 (drop 12 h)) b))
+    ∙ ap (λ (k : ℕ). set (f ++ b) (k + j) v) (sym l) ∙ sets-right f b j (v ∷ []))
+
+-- the check of bytes fits 4 bytes
+pub check-lt : (bs : List ℕ) → Bytes bs → check bs < 2 ^ 32
+check-lt bs k = rw (check-mod bs k) (omega (arith, low-lt 1 bs (omega arith), high-lt 1 0 bs (omega arith)))

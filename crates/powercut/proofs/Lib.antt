@@ -1,0 +1,17 @@
+pub mod BenchVectors
+pub mod StepRun
+pub mod FinalPool
+pub mod Logs
+pub mod CrashSafe
+pub mod Redo
+pub mod CommitCrashSafe
+pub mod StepCount
+pub mod StepRunInvariant
+pub mod ByteParity
+pub mod StepRunClaim
+pub mod StepPool
+pub mod Headers
+pub mod RunMatches
+pub mod PowerCut
+pub mod Refusals
+pub mod Committed

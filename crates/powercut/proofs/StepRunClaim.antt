@@ -1,0 +1,174 @@
+-- The claim of proofs/StepRun, proved for every shape with a page of whole words (`Good`): from clean pools and good entries. Assumes
+-- nothing else.
+use mathlib.Core.Path.{_≡_, refl, sym, ap, ap₂, _∙_, subst}
+use mathlib.Core.Logic.{_⊎_, inl, inr}
+use mathlib.Core.Bool.{Bool, true, false}
+use mathlib.Core.List.{List, [], _∷_, Sublistᴰ, Sublistᴰ·eq-nil}
+use Prim.Native.Nat.{ℕ, _+_, _*_, _/_, _%_, _≤_, _<_}
+use native.Mathlib.Nat.{zero-lt-suc, not-suc-le-zero, le-refl}
+use native.Mathlib.Omega.{arith}
+use lib.ListN.{length, getD}
+use Rattle.rules.specs.Words.{Bytes, word}
+use Rattle.rules.specs.Shape.{Shape, logA, logB, parityAt, poolSize, zonesAt}
+use Rattle.rules.specs.Staging.{Store, lay}
+use Rattle.rules.proofs.Shape.{Good, InData, fits, row-in}
+use Rattle.rules.proofs.Stores.{Covered, bytes-lay}
+use Rattle.powercut.specs.Log.{Log}
+use Rattle.powercut.specs.Steps.{Remedy, clear, commitSteps, neither, nothing, recoverySteps, remedy, replay}
+use Rattle.powercut.specs.Power.{State, keep, view}
+use Rattle.powercut.proofs.StepRun.{Claim, StepRun, Ended, Entries, Clean, SameData, Position, again, atCommit, atCut, atRecovery, begin, cut, cut-again, old-or-new, recover, step}
+use Rattle.powercut.proofs.FinalPool.{ParityW, Setting, final-first, final-parity, finalPool, par-cong, pars-row, targets-all, targets-distinct}
+use Rattle.powercut.proofs.Logs.{even-at, remedy-nothing}
+use Rattle.powercut.proofs.Redo.{Outside, CleanAt, even-A, even-B, in-A, in-B, new, pars}
+use Rattle.powercut.proofs.StepRunInvariant.{Inv, commit-done, log-kept, not-refused, recovery-done, run-inv}
+use Rattle.powercut.proofs.ByteParity.{byte-at, parity-bytes, parity-words, row-byte}
+
+floor8 : (s i : ℕ) → s % 8 ≡ 0 → s ≤ i → s ≤ i / 8 * 8
+floor8 s i e h = omega arith
+
+module _ (sh : Shape) (es : List Store) (p₀ : List ℕ) (c : Setting sh es p₀) where
+  new-right : (r : Bool) → ParityW sh (new sh es p₀ r)
+  new-right true = final-parity sh es p₀ c
+  new-right false = c .right
+
+  laid-bytes : (r : Bool) → Bytes (old-or-new sh r p₀ es)
+  laid-bytes true = bytes-lay p₀ es (c .bytes)
+  laid-bytes false = c .bytes
+
+  -- but for parity places, the new pool is the old one with the entries laid in
+  laid : (r : Bool) (a : ℕ) → a % 8 ≡ 0 → a + 8 ≤ poolSize sh → (Covered a (pars sh es p₀) → ⊥) → word (new sh es p₀ r) a ≡ word (old-or-new sh r p₀ es) a
+  laid true a ha hn h = pick (final-first sh es p₀ c a ha hn) where
+    pick : Covered a (pars sh es p₀) ⊎ (word (finalPool sh p₀ es) a ≡ word (lay p₀ es) a) → word (finalPool sh p₀ es) a ≡ word (lay p₀ es) a
+    pick (inl k) = absurd (h k)
+    pick (inr e) = e
+  laid false a ha hn h = refl
+
+  module _ (p : List ℕ) (r : Bool) (q : CleanAt sh es p₀ p r) where
+    clean-right : ParityW sh p
+    clean-right t i =
+        let a = parityAt sh t in
+        let j = row-in sh (c .good) t (sh .rows) i (le-refl (sh .rows)) in
+        q .every a (j .even) (fits sh (c .good) a (j .even) (j .high)) .out (inr (j .low))
+        ∙ new-right r t i
+        ∙ par-cong sh (c .good) (new sh es p₀ r) p t i
+        (λ b d. sym (q .every b (d .inside .even) (fits sh (c .good) b (d .inside .even) (d .inside .high)) .out (inr (d .inside .low))))
+
+    clean-of : Clean sh p
+    clean-of = record {
+      length-is = q .length-is;
+      bytes = q .bytes;
+      sealA = q .every (logA sh) (even-A sh es p₀ c) (in-A sh es p₀ c) .sa refl;
+      sealB = q .every (logB sh) (even-B sh es p₀ c) (in-B sh es p₀ c) .sb refl;
+      right = parity-bytes sh (c .good) p (q .bytes) clean-right;
+    }
+
+    -- a byte whose word is outside the logs and no parity place
+    byte-same : (i : ℕ) → i / 8 * 8 + 8 ≤ poolSize sh → Outside sh (i / 8 * 8) → (Covered (i / 8 * 8) (pars sh es p₀) → ⊥)
+        → getD p i 0 ≡ getD (old-or-new sh r p₀ es) i 0
+    byte-same i hn o h =
+        let a = i / 8 * 8 in
+        let e : a % 8 ≡ 0 = omega arith in
+        byte-at p (old-or-new sh r p₀ es) i (q .bytes) (laid-bytes r) (q .every a e hn .out o ∙ laid r a e hn h)
+
+    same-of : SameData sh p (old-or-new sh r p₀ es)
+    same-of i l h k =
+        byte-same i (fits sh (c .good) (i / 8 * 8) (d .inside .even) (d .inside .high)) (inr (d .inside .low)) (λ x. pars-row sh (c .good) (i / 8 * 8) (lay p₀ es) es x d)
+      where
+        d : InData sh (i / 8 * 8)
+        d = record {
+          inside = record { low = floor8 (zonesAt sh) i (even-at sh (c .good) 18 0 (zonesAt sh) (omega arith)) l; high = omega arith; even = omega arith };
+          data-row = subst (λ (y : ℕ). y < sh .rows) (sym (row-byte sh (c .good) i)) k;
+        }
+
+  ended : (s : State) (r : Bool) → s .pend ≡ [] → CleanAt sh es p₀ (s .base) r → Ended sh p₀ es s r
+  ended s r e q = record {
+    behind = e;
+    clean = subst (Clean sh) (sym (ap (lay (s .base)) e)) (clean-of (s .base) r q);
+    same = subst (λ (p : List ℕ). SameData sh p (old-or-new sh r p₀ es)) (sym (ap (lay (s .base)) e)) (same-of (s .base) r q);
+  }
+
+-- ---- no entries: no step changes anything
+
+module _ (sh : Shape) (p₀ : List ℕ) (q : Clean sh p₀) where
+  unfoldable pub Unchanged : State → Type 0
+  Unchanged s = (s .base ≡ p₀) × (s .pend ≡ [])
+
+  abbrev pub InvEmpty : Position → State → Type 0
+  InvEmpty (atCommit k) s = Unchanged s
+  InvEmpty atCut s = Unchanged s
+  InvEmpty (atRecovery r k) s = (r ≡ nothing) × Unchanged s
+
+  pub unchanged-view : (s : State) → Unchanged s → view s ≡ p₀
+  unfolding Unchanged
+  unchanged-view s h = ap₂ lay (h .0) (h .1)
+
+  unchanged-remedy : (s : State) → Unchanged s → remedy sh (view s) ≡ nothing
+  unchanged-remedy s h = ap (remedy sh) (unchanged-view s h) ∙ remedy-nothing sh p₀ (q .sealA) (q .sealB)
+
+  unchanged-cut : (s : State) (kept : List Store) → Unchanged s → Sublistᴰ kept (s .pend) → Unchanged (keep sh [] s kept)
+  unfolding Unchanged keep
+  unchanged-cut s kept h t = (ap₂ lay (h .0) (Sublistᴰ·eq-nil (subst (λ (l : List Store). Sublistᴰ kept l) (h .1) t)), refl)
+
+  pub run-unchanged : {f : Position} {s : State} → StepRun sh [] p₀ f s → InvEmpty f s
+  unfolding Unchanged commitSteps recoverySteps
+  run-unchanged begin = (refl, refl)
+  run-unchanged (step {k} {s} r l) = absurd (not-suc-le-zero l)
+  run-unchanged (cut {k} {s} {kept} r t) = unchanged-cut s kept (run-unchanged r) t
+  run-unchanged (recover {s} r n) = (unchanged-remedy s (run-unchanged r), run-unchanged r)
+  run-unchanged (again {q} {k} {s} r l) =
+      absurd (not-suc-le-zero (subst (λ (x : Remedy). k < length (recoverySteps sh (view s) x)) (run-unchanged r .0) l))
+  run-unchanged (cut-again {q} {k} {s} {kept} r t) = unchanged-cut s kept (run-unchanged r .1) t
+
+  unchanged-ended : (s : State) (r : Bool) → Unchanged s → Ended sh p₀ [] s r
+  unfolding Unchanged
+  unchanged-ended s r h = record {
+    behind = h .1;
+    clean = subst (Clean sh) (sym (unchanged-view s h)) q;
+    same = subst (λ (p : List ℕ). SameData sh p (old-or-new sh r p₀ [])) (sym (unchanged-view s h)) (same r);
+  }
+    where
+      same : (r : Bool) → SameData sh p₀ (old-or-new sh r p₀ [])
+      same true = λ i l h k. refl
+      same false = λ i l h k. refl
+
+-- ---- the claim
+
+pub setting : (sh : Shape) → Good sh → (e : Store) (es : List Store) (p₀ : List ℕ) → Clean sh p₀ → Entries sh (e ∷ es) → Setting sh (e ∷ es) p₀
+setting sh g e es p₀ q h = record {
+  good = g;
+  length-is = q .length-is;
+  bytes = q .bytes;
+  sealA = q .sealA;
+  sealB = q .sealB;
+  right = parity-words sh g p₀ (q .bytes) (q .right);
+  few = h .few;
+  some = zero-lt-suc (length es);
+  entries = targets-all sh (e ∷ es) (h .good) (h .vals);
+  distinct = targets-distinct sh (e ∷ es) (h .good);
+  targets = h .good;
+}
+
+remedy-of : (sh : Shape) (es : List Store) (p₀ : List ℕ) (s : State) (q : Remedy) (k : ℕ) → Inv sh es p₀ (atRecovery q k) s
+    → (q ≡ nothing) ⊎ ((l : Log) × (q ≡ replay l (length es)))
+remedy-of sh es p₀ s (replay l n) k i = inr (l, ap (replay l) (i .0))
+remedy-of sh es p₀ s clear k i = absurd i
+remedy-of sh es p₀ s nothing k i = inl refl
+remedy-of sh es p₀ s neither k i = absurd i
+
+pub step-run-claim : (sh : Shape) → Good sh → (p₀ : List ℕ) (es : List Store) → Clean sh p₀ → Entries sh es → Claim sh p₀ es
+step-run-claim sh g p₀ [] q h = record {
+  uncut = λ s r. unchanged-ended sh p₀ q s true (run-unchanged sh p₀ q r);
+  recovered = λ s x k r i. unchanged-ended sh p₀ q s (s .reached) (run-unchanged sh p₀ q r .1);
+  never-refused = λ s r e. let a = unchanged-remedy sh p₀ q s (run-unchanged sh p₀ q r) in let z : _≡_ {A = ℕ} 0 1 = cc in omega arith;
+  remedies = λ s x k r. inl (run-unchanged sh p₀ q r .0);
+  log-kept = λ s b n k r l. let a = run-unchanged sh p₀ q r .0 in let z : _≡_ {A = ℕ} 0 1 = cc in absurd (omega arith);
+}
+step-run-claim sh g p₀ (e ∷ es) q h =
+    let c = setting sh g e es p₀ q h in
+    record {
+      uncut = λ s r. let d = commit-done sh (e ∷ es) p₀ c s r in ended sh (e ∷ es) p₀ c s true (d .0) (subst (CleanAt sh (e ∷ es) p₀ (s .base)) (d .2) (d .1));
+      recovered = λ s x k r i. let d = recovery-done sh (e ∷ es) p₀ c s x k r i in ended sh (e ∷ es) p₀ c s (s .reached) (d .0) (d .1);
+      never-refused = not-refused sh (e ∷ es) p₀ c;
+      remedies = λ s x k r. remedy-of sh (e ∷ es) p₀ s x k (run-inv sh (e ∷ es) p₀ c r);
+      log-kept = log-kept sh (e ∷ es) p₀ c;
+    }

@@ -1,0 +1,65 @@
+-- `header::valid` meets its contract. Assumes nothing.
+use Rattle.rules.specs.Header.{headerId, headerOk}
+use Rattle.rules.proofs.Chain.{and-go, and-stop, eq-go, eq-stop, ne-go, ne-stop}
+use borrow.Author.Needs.{needs}
+use Rattle.header.proofs.valid.Statement.{statement}
+use Rattle.header.proofs.valid.Tie as tie
+
+letters-ok-requires : tie.Need-letters-ok-requires
+letters-ok-requires c κs = search needs
+
+returns : tie.Need-returns
+unfolding headerOk headerId
+returns c = search (needs, and-stop, and-go, eq-stop, eq-go, ne-stop, ne-go) depth 12
+
+shape-ok-requires : tie.Need-shape-ok-requires
+shape-ok-requires c κs = search needs
+
+returns-2 : tie.Need-returns-2
+unfolding headerOk headerId
+returns-2 c = search (needs, and-stop, and-go, eq-stop, eq-go, ne-stop, ne-go) depth 12
+
+byte-requires : tie.Need-byte-requires
+byte-requires c κs = search needs
+
+returns-3 : tie.Need-returns-3
+unfolding headerOk headerId
+returns-3 c = search (needs, and-stop, and-go, eq-stop, eq-go, ne-stop, ne-go) depth 12
+
+load64-requires : tie.Need-load64-requires
+load64-requires c κs = search needs
+
+returns-4 : tie.Need-returns-4
+unfolding headerOk headerId
+returns-4 c = search (needs, and-stop, and-go, eq-stop, eq-go, ne-stop, ne-go) depth 12
+
+check-ok-requires : tie.Need-check-ok-requires
+check-ok-requires c κs = search needs
+
+returns-5 : tie.Need-returns-5
+unfolding headerOk headerId
+returns-5 c = search (needs, and-stop, and-go, eq-stop, eq-go, ne-stop, ne-go) depth 12
+
+rest-ok-requires : tie.Need-rest-ok-requires
+rest-ok-requires c κs = search needs
+
+returns-6 : tie.Need-returns-6
+unfolding headerOk headerId
+returns-6 c = search (needs, and-stop, and-go, eq-stop, eq-go, ne-stop, ne-go) depth 12
+
+pub valid-spec : {M : Type 1} → statement M
+valid-spec =
+    tie.close
+    (tie.spec
+    letters-ok-requires
+    returns
+    shape-ok-requires
+    returns-2
+    byte-requires
+    returns-3
+    load64-requires
+    returns-4
+    check-ok-requires
+    returns-5
+    rest-ok-requires
+    returns-6)

@@ -1,0 +1,120 @@
+-- A pool opened, way out by way out; and what a caller knows of an opened pool. Assumes nothing.
+use Prim.Native.Nat.{ℕ, _≤_, _<_}
+use mathlib.Core.Path.{_≡_, refl, sym, ap, _∙_}
+use mathlib.Core.Bool.{Bool, true, false}
+use mathlib.Core.Option.{Option, none, some}
+use mathlib.Core.List.{List}
+use native.Mathlib.Omega.{arith}
+use lib.Dec.{eqb}
+use lib.ListN.{length}
+use borrow.Author.Tests.{eq-eqb, eqb-true, le-ltb, lt-ltb, ne-eqb}
+use Rattle.rules.specs.Shape.{Shape as PoolShape, poolSize}
+use Rattle.rules.specs.Test.{first}
+use Rattle.rules.specs.Header.{differing, headerOk, headerShape, inRange, openTests, pageAt, same, shapeIn, validHeader}
+use Rattle.rules.proofs.Bool.{split}
+use Rattle.rules.proofs.Shape.{Good as GoodShape}
+use Rattle.rules.proofs.Test.{Passed, first-passed, not-not, passed-first}
+use Rattle.rules.proofs.Header.{header-range}
+use Rattle.layout.specs.declared.Shape.{Shape}
+use Rattle.layout.specs.declared.Opened.{Opened}
+use Rattle.layout.specs.declared.Opened.the-variants.{Good, Refused}
+use Rattle.layout.specs.Reading.{InRange, answer, opened, openedBy, shapeFrom, shapeOf}
+use Rattle.layout.proofs.Range.{shape-good}
+
+-- ---- by the header page h, a pool of n bytes
+
+pub opened-by-good : (h : List ℕ) (n z : ℕ) (s : Shape) → s ≡ shapeFrom (headerShape h) → z ≡ poolSize (shapeOf s) → n ≡ z
+    → Good s ≡ openedBy h n
+unfolding openedBy answer first headerShape
+opened-by-good h n z s e f g = let k = eq-eqb n (poolSize (shapeOf (shapeFrom (headerShape h)))) (g ∙ f ∙ ap (λ (t : Shape). poolSize (shapeOf t)) e) in rw (e, k)
+
+pub opened-by-refused : (h : List ℕ) (n z : ℕ) (s : Shape) → s ≡ shapeFrom (headerShape h) → z ≡ poolSize (shapeOf s) → (n ≡ z → ⊥)
+    → Refused 2 ≡ openedBy h n
+unfolding openedBy answer first headerShape
+opened-by-refused h n z s e f g =
+    let k = ne-eqb n (poolSize (shapeOf (shapeFrom (headerShape h)))) (λ q. g (q ∙ sym (f ∙ ap (λ (t : Shape). poolSize (shapeOf t)) e))) in rw k
+
+-- ---- a pool
+
+module _ (p : List ℕ) where
+  pub open-short : length p < 512 → Refused 2 ≡ opened p
+  unfolding opened openTests first answer
+  open-short h = rw (lt-ltb (length p) 512 h)
+
+  pub open-neither : (a b : Bool) → 512 ≤ length p → a ≡ validHeader p 0 → a ≡ false → b ≡ validHeader p 256 → b ≡ false → Refused 3 ≡ opened p
+  unfolding opened openTests first answer
+  open-neither a b l e h f k = rw (le-ltb (length p) 512 l, ← e, h, ← f, k)
+
+  pub open-differing : (b r : Bool) → 512 ≤ length p → validHeader p 0 ≡ true → b ≡ validHeader p 256 → b ≡ true
+      → r ≡ same (pageAt p 0) (pageAt p 256) → r ≡ false → Refused 4 ≡ opened p
+  unfolding opened openTests first answer differing
+  open-differing b r l h f k e d = rw (le-ltb (length p) 512 l, h, ← f, k, ← e, d)
+
+  pub open-equal : (b r : Bool) (t : Opened) → 512 ≤ length p → validHeader p 0 ≡ true → b ≡ validHeader p 256 → b ≡ true
+      → r ≡ same (pageAt p 0) (pageAt p 256) → r ≡ true → t ≡ openedBy (pageAt p 0) (length p) → t ≡ opened p
+  unfolding opened openTests first answer differing shapeIn openedBy
+  open-equal b r t l h f k e d g = rw (le-ltb (length p) 512 l, h, ← f, k, ← e, d) g
+
+  pub open-header : (b : Bool) (t : Opened) → 512 ≤ length p → validHeader p 0 ≡ true → b ≡ validHeader p 256 → b ≡ false → t ≡ openedBy (pageAt p 0) (length p) → t ≡ opened p
+  unfolding opened openTests first answer differing shapeIn openedBy
+  open-header b t l h f k g = rw (le-ltb (length p) 512 l, h, ← f, k) g
+
+  pub open-copy : (a b : Bool) (t : Opened) → 512 ≤ length p → a ≡ validHeader p 0 → a ≡ false → b ≡ validHeader p 256 → b ≡ true
+      → t ≡ openedBy (pageAt p 256) (length p) → t ≡ opened p
+  unfolding opened openTests first answer differing shapeIn openedBy
+  open-copy a b t l e h f k g = rw (le-ltb (length p) 512 l, ← e, h, ← f, k) g
+
+-- ---- what a caller knows of an opened pool
+
+pub answer-good : (o : Option ℕ) (sh : PoolShape) (s : Shape) → answer o sh ≡ Good s → (o ≡ none) × (shapeFrom sh ≡ s)
+unfolding answer
+answer-good none sh s e = (refl, cc)
+answer-good (some n) sh s e = absurd (let z : _≡_ {A = ℕ} 0 1 = cc in omega arith)
+
+pub answer-refused : (o : Option ℕ) (sh : PoolShape) (n : ℕ) → answer o sh ≡ Refused n → o ≡ some n
+unfolding answer
+answer-refused none sh n e = absurd (let z : _≡_ {A = ℕ} 0 1 = cc in omega arith)
+answer-refused (some m) sh n e = cc
+
+-- where all tests are passed, the shape that counts is a valid header's
+passed-range : (p : List ℕ) → Passed (openTests p) → inRange (shapeIn p) ≡ true
+unfolding openTests shapeIn validHeader
+passed-range p o =
+    split (headerOk (pageAt p 0)) (λ e. rw e (header-range (pageAt p 0) e))
+    (λ e. rw e (header-range (pageAt p 256) (not-not (headerOk (pageAt p 256)) (rw e at (o .1 .0)))))
+
+passed-length : (p : List ℕ) → Passed (openTests p) → length p ≡ poolSize (shapeIn p)
+unfolding openTests
+passed-length p o = eqb-true (length p) (poolSize (shapeIn p)) (not-not (eqb (length p) (poolSize (shapeIn p))) (o .1 .1 .1 .0))
+
+module _ (p : List ℕ) where
+  pub open-passed : (s : Shape) → opened p ≡ Good s → Passed (openTests p)
+  unfolding opened
+  open-passed s e = first-passed (openTests p) (answer-good (first (openTests p)) (shapeIn p) s e .0)
+
+  pub open-refused : (n : ℕ) → opened p ≡ Refused n → first (openTests p) ≡ some n
+  unfolding opened
+  open-refused n e = answer-refused (first (openTests p)) (shapeIn p) n e
+
+  pub passed-open : Passed (openTests p) → opened p ≡ Good (shapeFrom (shapeIn p))
+  unfolding opened answer
+  passed-open o = rw (passed-first (openTests p) o)
+
+  pub refused-open : (n : ℕ) → first (openTests p) ≡ some n → opened p ≡ Refused n
+  unfolding opened answer
+  refused-open n e = rw e
+
+  shape-whole : shapeOf (shapeFrom (shapeIn p)) ≡ shapeIn p
+  unfolding shapeIn headerShape
+  shape-whole = refl
+
+  -- the length is the shape's, which is in range and the one in the header
+  pub open-good : (s : Shape) → opened p ≡ Good s → (length p ≡ poolSize (shapeOf s)) × InRange (shapeOf s) × (shapeOf s ≡ shapeIn p)
+  unfolding opened
+  open-good s e =
+      let o = open-passed s e in
+      let k : shapeOf s ≡ shapeIn p = ap shapeOf (sym (answer-good (first (openTests p)) (shapeIn p) s e .1)) ∙ shape-whole in
+      (passed-length p o ∙ ap poolSize (sym k), ap inRange k ∙ passed-range p o, k)
+
+  pub open-shape : (s : Shape) → opened p ≡ Good s → GoodShape (shapeOf s)
+  open-shape s e = shape-good s (open-good s e .1)

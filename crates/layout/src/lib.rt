@@ -1,0 +1,126 @@
+// The pool's shape (01, "The pool's bytes"), its constants and checked constructor; and a pool opened.
+ghost use mathlib.Core.Path.{_≡_};
+ghost use mathlib.Core.Bool.{true};
+ghost use Prim.Native.Nat.{_*_, _≤_, _<_};
+ghost use lib.ListN.{length};
+ghost use Rattle.rules.specs.Shape.{bodyLimit, entryLimit, pageSize, poolSize, stagingSize, zoneAt, zoneCells};
+ghost use Rattle.rules.specs.Header.{headerOk, headerShape, validHeader};
+ghost use Rattle.layout.specs.Reading.{InRange, made, opened, openedBy, shapeFrom, shapeOf};
+
+pub struct Shape {
+    pub rows: usize,
+    pub cols: usize,
+    pub zones: usize,
+}
+
+// A checked shape.
+pub enum Made {
+    Good(Shape),
+    OutOfRange,
+}
+
+// A pool opened: its shape, or the refusal's number.
+pub enum Opened {
+    Good(Shape),
+    Refused(u8),
+}
+
+impl Shape {
+    // Bytes of a page.
+    pub const PAGE: usize = 256;
+    // Entries of a log or a transaction, at most.
+    pub const ENTRIES: usize = 127;
+    // Bytes of a body, at most.
+    pub const BODY: usize = 496;
+    // Bytes of staging memory, at least.
+    pub const STAGING: usize = 2032;
+
+    // The shape with these numbers, if each is in its range. The second clause ties the constants to 01's limits.
+    pub fn new(rows: usize, cols: usize, zones: usize) -> Made
+        ensures { λ r. ⌜ r ≡ made rows cols zones ⌝ }
+        ensures limits { λ r. do ⌜ ((← ⟦Shape::PAGE⟧ .entry) ≡ pageSize) × ((← ⟦Shape::ENTRIES⟧ .entry) ≡ entryLimit) × ((← ⟦Shape::BODY⟧ .entry) ≡ bodyLimit) × ((← ⟦Shape::STAGING⟧ .entry) ≡ stagingSize) ⌝ }
+    {
+        if header::in_range(rows, cols, zones) {
+            return Made::Good(Shape { rows, cols, zones });
+        }
+        Made::OutOfRange
+    }
+
+    // The pool's length.
+    pub fn size(self) -> usize
+        requires { ⌜ InRange (shapeOf self) ⌝ }
+        ensures { λ r. ⌜ r ≡ poolSize (shapeOf self) ⌝ }
+    {
+        (18 + self.zones * (self.rows + 1) * self.cols) * Shape::PAGE
+    }
+
+    // The cells of a zone.
+    pub fn cells(self) -> usize
+        requires { ⌜ InRange (shapeOf self) ⌝ }
+        ensures { λ r. ⌜ (r ≡ zoneCells (shapeOf self)) × (r < 65536) ⌝ }
+    {
+        self.rows * self.cols * 4
+    }
+
+    // Where zone `z` begins.
+    pub fn zone_at(self, z: usize) -> usize
+        requires { ⌜ InRange (shapeOf self) × (z ≤ self .zones) ⌝ }
+        ensures { λ r. ⌜ (r ≡ zoneAt (shapeOf self) z) × (r ≤ poolSize (shapeOf self)) ⌝ }
+    {
+        18 * Shape::PAGE + z * ((self.rows + 1) * (self.cols * Shape::PAGE))
+    }
+}
+
+// The shape that a header page tells.
+pub fn header_shape(h: &[u8]) -> Shape
+    requires { ⌜ length (now h) ≡ pageSize ⌝ }
+    ensures { λ r. ⌜ r ≡ shapeFrom (headerShape (now (h .entry))) ⌝ }
+{
+    Shape {
+        rows: header::byte(h, 4),
+        cols: header::byte(h, 5),
+        zones: header::byte(h, 6),
+    }
+}
+
+// The shape that a valid header page tells, or refusal 2: `n` is not its length.
+fn open_by(h: &[u8], n: usize) -> Opened
+    requires { ⌜ (length (now h) ≡ pageSize) × (headerOk (now h) ≡ true) ⌝ }
+    ensures { λ r. ⌜ r ≡ openedBy (now (h .entry)) n ⌝ }
+{
+    let s = header_shape(h);
+    if n == s.size() {
+        return Opened::Good(s);
+    }
+    Opened::Refused(2)
+}
+
+// A pool opened by its valid header: refusal 4 if the copy is valid and different.
+fn open_first(pool: &[u8]) -> Opened
+    requires { ⌜ (2 * pageSize ≤ length (now pool)) × (validHeader (now pool) 0 ≡ true) ⌝ }
+    ensures { λ r. ⌜ r ≡ opened (now (pool .entry)) ⌝ }
+{
+    if header::valid(&pool[256..512]) {
+        if !check::same(&pool[0..256], &pool[256..512]) {
+            return Opened::Refused(4);
+        }
+        return open_by(&pool[0..256], pool.len());
+    }
+    open_by(&pool[0..256], pool.len())
+}
+
+// The pool's shape, or the first of refusals 2, 3, 4, 2.
+pub fn open(pool: &[u8]) -> Opened
+    ensures { λ r. ⌜ r ≡ opened (now (pool .entry)) ⌝ }
+{
+    if pool.len() < 2 * Shape::PAGE {
+        return Opened::Refused(2);
+    }
+    if header::valid(&pool[0..256]) {
+        return open_first(pool);
+    }
+    if header::valid(&pool[256..512]) {
+        return open_by(&pool[256..512], pool.len());
+    }
+    Opened::Refused(3)
+}

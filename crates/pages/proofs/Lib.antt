@@ -1,0 +1,4 @@
+pub mod Storing
+pub mod Parts
+pub mod Header
+pub mod FreeHead

@@ -1,0 +1,131 @@
+-- The places of a column: its rows are a row's bytes apart. Assumes nothing.
+use Prim.Native.Nat.{ℕ, zero, suc, _+_, _-_, _*_, _/_, _%_, _≤_, _<_}
+use mathlib.Core.Path.{_≡_, refl, sym, ap, ap₂, _∙_}
+use mathlib.Core.Bool.{Bool, true, false, _&&_}
+use mathlib.Core.List.{List}
+use native.Mathlib.Nat.{div-add-mod', div-lt-iff-lt-mul, mul-le-mul}
+use native.Mathlib.Numerals.{add-one}
+use native.Mathlib.Omega.{arith}
+use lib.Arith.{digits-div, digits-mod, digits-lt}
+use lib.Dec.{eqb}
+use lib.ListN.{length, getD}
+use Rattle.rules.specs.Words.{word}
+use Rattle.rules.specs.Shape.{Shape, byteAt, off, poolSize, row, rowAt, rowSize, zone, zonesAt}
+use Rattle.rules.specs.Parity.{columnByte, parityWord, xorTo}
+use Rattle.rules.specs.Scrub.{allTo, columnRight, countTo, sumTo}
+use Rattle.rules.specs.Header.{inRange}
+use Rattle.rules.proofs.Header.{range-ranged}
+use Rattle.rules.proofs.Shape.{Good, cell-high, cell-self, fits, off-cell, off-lt, row-in, zone-cell, zone-lt, InZones}
+use Rattle.rules.proofs.Xor.{xorTo-cong}
+use Rattle.columns.specs.Column.{RowsFit, Word, rowByte, rowWord, rowsZero}
+
+-- ---- numbers of a shape in range
+
+-- the number of a row, and of its first byte behind the zones' start
+pub record RowSmall (rows z r n : ℕ) : Type 0 where
+  pub number : z * (rows + 1) + r ≤ 255
+  pub place : (z * (rows + 1) + r) * n ≤ 255 * 16384
+
+pub row-small : (sh : Shape) → inRange sh ≡ true → {z r n : ℕ} → z < sh .zones → r ≤ sh .rows → n ≤ 16384 → RowSmall (sh .rows) z r n
+row-small sh h {z} {r} {n} hz hr hn =
+    let l = range-ranged sh h in
+    let a : z ≤ 15 = omega arith in
+    let b : sh .rows + 1 ≤ 16 = omega arith in
+    let m = mul-le-mul a b in
+    let k : z * (sh .rows + 1) + r ≤ 255 = omega arith in
+    record { number = k; place = mul-le-mul k hn }
+
+-- ---- rows
+
+pub byte-row : (sh : Shape) (z r o : ℕ) → byteAt sh z r o ≡ byteAt sh z 0 o + r * rowSize sh
+unfolding byteAt
+byte-row sh z r o = omega arith
+
+pub byte-off : (sh : Shape) (z r a o : ℕ) → byteAt sh z r (a + o) ≡ byteAt sh z 0 a + r * rowSize sh + o
+unfolding byteAt
+byte-off sh z r a o = omega arith
+
+allTo-cong : (n : ℕ) (f g : ℕ → Bool) → ((i : ℕ) → i < n → f i ≡ g i) → allTo n f ≡ allTo n g
+unfolding allTo
+allTo-cong zero f g h = refl
+allTo-cong (suc n) f g h = ap₂ _&&_ (allTo-cong n f g (λ i l. h i (omega arith))) (h n (omega arith))
+
+-- ---- column c of zone z
+
+module _ (sh : Shape) (g : Good sh) (z c : ℕ) (hz : z < sh .zones) (hc : c < sh .cols) where
+  page-pos : 0 < sh .page
+  page-pos = let h = g .page-min in omega arith
+
+  pub column-fits : (p : List ℕ) (at n : ℕ) → at ≡ byteAt sh z 0 (c * sh .page) → n ≡ rowSize sh → length p ≡ poolSize sh
+      → RowsFit p at n (sh .rows + 1) (sh .page)
+  column-fits p at n q w e =
+      let h : sh .page - 1 < sh .page = (let k = page-pos in omega arith) in
+      let l = cell-high sh g z (sh .rows) (c * sh .page + (sh .page - 1)) hz (omega arith) (digits-lt hc h) in
+      let b = byte-off sh z (sh .rows) (c * sh .page) (sh .page - 1) in
+      rw (q, w, e) (let k = page-pos in omega arith)
+
+  pub column-judged : (p : List ℕ) (at n : ℕ) (r : Bool) → at ≡ byteAt sh z 0 (c * sh .page) → n ≡ rowSize sh
+      → r ≡ rowsZero p at n (sh .rows + 1) (sh .page) → r ≡ columnRight sh p z c
+  unfolding rowsZero columnRight
+  column-judged p at n r q w e =
+      e ∙ rw (add-one, q, w) (allTo-cong (sh .page) (λ i. eqb (xorTo (suc (sh .rows)) (rowByte p (byteAt sh z 0 (c * sh .page)) (rowSize sh) i)) 0) (λ i. eqb (columnByte sh p z (c * sh .page + i)) 0)
+      (λ i h. ap (λ (x : ℕ). eqb x 0) (xorTo-cong (suc (sh .rows)) (rowByte p (byteAt sh z 0 (c * sh .page)) (rowSize sh) i) (λ r. getD p (byteAt sh z r (c * sh .page + i)) 0)
+      (λ r k. ap (λ (x : ℕ). getD p x 0) (sym (byte-off sh z r (c * sh .page) i))))))
+
+-- ---- the column of a place
+
+module _ (sh : Shape) (g : Good sh) where
+  pub column-cell : (z r c o : ℕ) → r ≤ sh .rows → c < sh .cols → o < sh .page → zone sh (byteAt sh z r (c * sh .page + o)) * sh .cols + off sh (byteAt sh z r (c * sh .page + o)) / sh .page ≡ z * sh .cols + c
+  column-cell z r c o hr hc ho =
+      rw (zone-cell sh g z r (c * sh .page + o) hr (digits-lt hc ho), off-cell sh g z r (c * sh .page + o) (digits-lt hc ho), digits-div c ho)
+
+  -- a place is the one that its column, row and offset tell
+  pub column-place : (i k r : ℕ) → zonesAt sh ≤ i → zone sh i * sh .cols + off sh i / sh .page ≡ k → row sh i ≡ r
+      → i ≡ byteAt sh (k / sh .cols) 0 (k % sh .cols * sh .page) + r * rowSize sh + off sh i % sh .page
+  column-place i k r low e f =
+      let l : off sh i / sh .page < sh .cols = div-lt-iff-lt-mul {k = sh .page} (let h = g .page-min in omega arith) .1 (off-lt sh g i) in
+      let a : k / sh .cols ≡ zone sh i = ap (λ (x : ℕ). x / sh .cols) (sym e) ∙ digits-div (zone sh i) l in
+      let b : k % sh .cols ≡ off sh i / sh .page = ap (λ (x : ℕ). x % sh .cols) (sym e) ∙ digits-mod (zone sh i) l in
+      sym (rw (a, b, ← f) (sym (byte-off sh (zone sh i) (row sh i) (off sh i / sh .page * sh .page) (off sh i % sh .page))
+      ∙ ap (byteAt sh (zone sh i) (row sh i)) (div-add-mod' (off sh i) (sh .page)) ∙ cell-self sh g i low))
+
+  -- ---- a target's parity
+
+  pub target-place : (t n : ℕ) → InZones sh t → n ≡ rowSize sh → ((t - zonesAt sh) / n / (sh .rows + 1) < sh .zones) × ((t - zonesAt sh) % n < rowSize sh)
+  unfolding zone off
+  target-place t n h e = rw e (zone-lt sh g t h, off-lt sh g t)
+
+  pub target-row : (t r n a : ℕ) → n ≡ rowSize sh → a ≡ byteAt sh ((t - zonesAt sh) / n / (sh .rows + 1)) r ((t - zonesAt sh) % n) → a ≡ rowAt sh t r
+  unfolding zone off rowAt
+  target-row t r n a e f = f ∙ rw e
+
+  pub target-fits : (p : List ℕ) (t at n : ℕ) → InZones sh t → at ≡ rowAt sh t 0 → n ≡ rowSize sh → length p ≡ poolSize sh → RowsFit p at n (sh .rows) 8
+  unfolding rowAt
+  target-fits p t at n h q w e =
+      let i = row-in sh g t (sh .rows) h (omega arith) in
+      let k = fits sh g (byteAt sh (zone sh t) (sh .rows) (off sh t)) (i .even) (i .high) in
+      let b = byte-row sh (zone sh t) (sh .rows) (off sh t) in
+      rw (q, w, e) (omega arith)
+
+  pub target-parity : (p : List ℕ) (t at n r : ℕ) → at ≡ rowAt sh t 0 → n ≡ rowSize sh → Word (xorTo (sh .rows) (rowWord p at n)) r → Word (parityWord sh p t) r
+  unfolding rowAt parityWord
+  target-parity p t at n r q w v =
+      record {
+        value = v .value ∙ rw (q, w) (xorTo-cong (sh .rows) (rowWord p (byteAt sh (zone sh t) 0 (off sh t)) (rowSize sh)) (λ k. word p (byteAt sh (zone sh t) k (off sh t)))
+            (λ k h. ap (word p) (sym (byte-row sh (zone sh t) k (off sh t)))));
+        small = v .small;
+      }
+
+-- ---- counts
+
+pub count-one : (f : ℕ → Bool) (c n : ℕ) → n ≡ countTo c f → f c ≡ true → n + 1 ≡ countTo (c + 1) f
+unfolding countTo
+count-one f c n e t = rw (add-one c, countTo, t) (omega arith)
+
+pub count-none : (f : ℕ → Bool) (c n : ℕ) → n ≡ countTo c f → f c ≡ false → n ≡ countTo (c + 1) f
+unfolding countTo
+count-none f c n e t = rw (add-one c, countTo, t) (omega arith)
+
+pub sum-more : (f : ℕ → ℕ) (z n m : ℕ) → n ≡ sumTo z f → m ≡ f z → n + m ≡ sumTo (z + 1) f
+unfolding sumTo
+sum-more f z n m e t = rw add-one (omega arith)

@@ -1,0 +1,15 @@
+-- `heads::Head::check` meets its contract. Assumes nothing.
+use Rattle.heads.proofs.HeadWords.{head-check}
+use native.Mathlib.Omega.{arith}
+use borrow.Author.Needs.{needs}
+use Rattle.heads.proofs.Head.check.Statement.{statement}
+use Rattle.heads.proofs.Head.check.Tie as tie
+
+cast-result : tie.Need-cast-result
+cast-result c = search needs
+
+returns : tie.Need-returns
+returns c = let s = c .before .args .self in omega (arith, head-check (s .first) (s .second), c .struct-known .given)
+
+pub check-spec : {M : Type 1} → statement M
+check-spec = tie.close (tie.spec cast-result returns)

@@ -1,0 +1,211 @@
+-- The walk over a zone, one run further on: what is met at a cell by its head, and how the walk goes on, breaks and ends.
+-- Assumes nothing.
+use Prim.Native.Nat.{ℕ, zero, suc, _+_, _-_, _*_, _≤_, _<_}
+use mathlib.Core.Path.{_≡_, refl, sym, ap, _∙_}
+use mathlib.Core.Bool.{Bool, true, false}
+use mathlib.Core.List.{List, [], _∷_}
+use native.Mathlib.Nat.{zero-add, suc-add, sub-zero}
+use native.Mathlib.Omega.{arith}
+use lib.ListN.{length, take, drop, length-drop}
+use lib.Seq.{drop-drop, length-take-le, take-nil, take-take}
+use borrow.Author.Tests.{le-leb, lt-leb}
+use Rattle.rules.specs.Runs.{Next, Run, Walk, broken, cells, checkRun, ended, fits, free, freeOk, headCells, isFree, nextRun, objectOk, onward, readRun, run, runOf, walk, zoneWalk}
+use Rattle.rules.proofs.Bool.{split}
+use Rattle.rules.proofs.Laid.{read-says, says-cells, step-end, step-inv, walk-fuel}
+use Rattle.stage.specs.View.{part, seen}
+use Rattle.stage.proofs.View.{length-seen}
+use Rattle.runs.specs.Rest.{Meets, Passed, Zoned, metCells, metFree, restOf, walkOf, walkOn}
+
+pub zoned-seen : {pool : List ℕ} (st : List ℕ) (k : ℕ) {from n : ℕ} → Zoned pool from n → Zoned (seen pool st k) from n
+zoned-seen {pool} st k z = record { even = z .even; inside = rw (length-seen pool st k) (z .inside) }
+
+-- ---- a zone's rest
+
+drop-take : (k m : ℕ) (l : List ℕ) → drop k (take (k + m) l) ≡ take m (drop k l)
+drop-take zero m l = rw (zero-add m)
+drop-take (suc k) m [] = rw (suc-add k m) (sym (take-nil m))
+drop-take (suc k) m (x ∷ l) = rw (suc-add k m) (drop-take k m l)
+
+module _ (v : List ℕ) (from n : ℕ) where
+  rest-start : restOf v from n 0 ≡ part (64 * n) from v
+  unfolding restOf
+  rest-start = rw (sub-zero n) (ap (λ (x : ℕ). part (64 * n) x v) (omega arith))
+
+  pub rest-length : (c : ℕ) → Zoned v from n → length (restOf v from n c) ≡ 64 * (n - c)
+  unfolding restOf part
+  rest-length c z = length-take-le (64 * (n - c)) (drop (from + 64 * c) v) (rw (length-drop (from + 64 * c) v) (omega (arith, z .inside)))
+
+  rest-drop : (c m : ℕ) → c + m ≤ n → drop (64 * m) (restOf v from n c) ≡ restOf v from n (c + m)
+  unfolding restOf part
+  rest-drop c m h =
+      let e : 64 * (n - c) ≡ 64 * m + 64 * (n - (c + m)) = omega arith in
+      let f : from + 64 * c + 64 * m ≡ from + 64 * (c + m) = omega arith in
+      rw e (drop-take (64 * m) (64 * (n - (c + m))) (drop (from + 64 * c) v) ∙ ap (take (64 * (n - (c + m)))) (drop-drop (64 * m) (from + 64 * c) v ∙ ap (λ (x : ℕ). drop x v) f))
+
+  pub rest-head : (c : ℕ) → c < n → take 16 (restOf v from n c) ≡ part 16 (from + 64 * c) v
+  unfolding restOf part
+  rest-head c h = take-take 16 (64 * (n - c)) (drop (from + 64 * c) v) (omega arith)
+
+-- ---- what is met, by the head
+
+next-is : (a : Bool) (bs h : List ℕ) → take 16 bs ≡ h → 1 ≤ length bs → nextRun a bs ≡ checkRun a bs (runOf h (drop 16 bs))
+unfolding nextRun readRun
+next-is a [] h e l = absurd (omega arith)
+next-is a (b ∷ bs) h e l = ap (λ (x : List ℕ). checkRun a (b ∷ bs) (runOf x (drop 16 (b ∷ bs)))) e
+
+module _ (a : Bool) (bs h : List ℕ) (rest : ℕ) (e : take 16 bs ≡ h) (l : length bs ≡ 64 * rest) (k : 1 ≤ rest) where
+  next-free : headCells h ≤ rest → freeOk h ≡ true → a ≡ false → nextRun a bs ≡ run (free (headCells h))
+  unfolding runOf checkRun fits
+  next-free m p q = next-is a bs h e (omega arith) ∙ rw (p, q, le-leb (64 * headCells h) (length bs) (omega arith))
+
+  next-object : headCells h ≤ rest → freeOk h ≡ false → objectOk h ≡ true
+      → (metCells (nextRun a bs) ≡ headCells h) × (metFree (nextRun a bs) ≡ false)
+  unfolding runOf checkRun fits
+  next-object m p q =
+      let f = next-is a bs h e (omega arith) in
+      split a
+      (λ y. (rw (f, p, q, y, le-leb (64 * headCells h) (length bs) (omega arith)), rw (f, p, q, y, le-leb (64 * headCells h) (length bs) (omega arith))))
+      (λ y. (rw (f, p, q, y, le-leb (64 * headCells h) (length bs) (omega arith)), rw (f, p, q, y, le-leb (64 * headCells h) (length bs) (omega arith))))
+
+  next-after : headCells h ≤ rest → freeOk h ≡ true → a ≡ true → nextRun a bs ≡ broken
+  unfolding runOf checkRun fits
+  next-after m p q = next-is a bs h e (omega arith) ∙ rw (p, q, le-leb (64 * headCells h) (length bs) (omega arith))
+
+  next-none : freeOk h ≡ false → objectOk h ≡ false → nextRun a bs ≡ broken
+  unfolding runOf checkRun
+  next-none p q = next-is a bs h e (omega arith) ∙ rw (p, q)
+
+  next-long : rest < headCells h → nextRun a bs ≡ broken
+  unfolding runOf checkRun fits
+  next-long m =
+      let f = next-is a bs h e (omega arith) in
+      let y = lt-leb (64 * headCells h) (length bs) (omega arith) in
+      split (freeOk h) (λ p. f ∙ rw (p, y)) (λ p. split (objectOk h) (λ q. f ∙ rw (p, q, y)) (λ q. f ∙ rw (p, q)))
+
+module _ {v : List ℕ} {from n c : ℕ} {a : Bool} (z : Zoned v from n) (b : c < n) (h : List ℕ) (e : h ≡ part 16 (from + 64 * c) v) {m : ℕ} (q : m ≡ headCells h) where
+  pub meets-long : n - c < m → Meets v from n c a 0 false
+  meets-long k =
+      let y = next-long a (restOf v from n c) h (n - c) (rest-head v from n c b ∙ sym e) (rest-length v from n c z) (omega arith) (rw (← q) k) in
+      record { cells-is = rw y; free-is = rw y }
+
+  pub meets-after : m ≤ n - c → {x : Bool} → x ≡ freeOk h → x ≡ true → a ≡ true → Meets v from n c a 0 false
+  meets-after k r p i =
+      let y = next-after a (restOf v from n c) h (n - c) (rest-head v from n c b ∙ sym e) (rest-length v from n c z) (omega arith) (rw (← q) k) (sym r ∙ p) i in
+      record { cells-is = rw y; free-is = rw y }
+
+  pub meets-free : m ≤ n - c → {x : Bool} → x ≡ freeOk h → x ≡ true → a ≡ false → Meets v from n c a m true
+  meets-free k r p i =
+      let y = next-free a (restOf v from n c) h (n - c) (rest-head v from n c b ∙ sym e) (rest-length v from n c z) (omega arith) (rw (← q) k) (sym r ∙ p) i in
+      record { cells-is = rw y q; free-is = rw y }
+
+  pub meets-object : m ≤ n - c → {x y : Bool} → x ≡ freeOk h → x ≡ false → y ≡ objectOk h → y ≡ true → Meets v from n c a m false
+  meets-object k r p s i =
+      let y = next-object a (restOf v from n c) h (n - c) (rest-head v from n c b ∙ sym e) (rest-length v from n c z) (omega arith) (rw (← q) k) (sym r ∙ p) (sym s ∙ i) in
+      record { cells-is = q ∙ sym (y .0); free-is = sym (y .1) }
+
+  pub meets-none : {x y : Bool} → x ≡ freeOk h → x ≡ false → y ≡ objectOk h → y ≡ false → Meets v from n c a 0 false
+  meets-none r p s i =
+      let y = next-none a (restOf v from n c) h (n - c) (rest-head v from n c b ∙ sym e) (rest-length v from n c z) (omega arith) (sym r ∙ p) (sym s ∙ i) in
+      record { cells-is = rw y; free-is = rw y }
+
+-- ---- the walk from here on
+
+pub walk-start : (v : List ℕ) (from n : ℕ) → walkOn false (restOf v from n 0) ≡ walkOf v from n
+unfolding walkOn walkOf zoneWalk
+walk-start v from n = rw (rest-start v from n)
+
+walk-nil : (a : Bool) (bs : List ℕ) → length bs ≡ 0 → walkOn a bs ≡ record { runs = []; whole = true }
+unfolding walkOn walk nextRun onward
+walk-nil a [] h = refl
+walk-nil a (b ∷ bs) h = absurd (omega arith)
+
+pub walk-end : {v : List ℕ} {from n : ℕ} (c : ℕ) (a : Bool) → Zoned v from n → n ≤ c → walkOn a (restOf v from n c) ≡ record { runs = []; whole = true }
+walk-end {v} {from} {n} c a z h = walk-nil a (restOf v from n c) (rw (rest-length v from n c z) (omega arith))
+
+walk-stop : (a : Bool) (bs : List ℕ) → metCells (nextRun a bs) ≡ 0 → 1 ≤ length bs → walkOn a bs ≡ record { runs = []; whole = false }
+unfolding walkOn walk
+walk-stop a bs e h = go (nextRun a bs) refl e
+  where
+    go : (x : Next) → nextRun a bs ≡ x → metCells x ≡ 0 → walk (suc (length bs)) a bs ≡ record { runs = []; whole = false }
+    go ended p e = absurd (let q : length bs ≡ 0 = ap length (step-end a bs p) in omega arith)
+    go broken p e = unfold onward in (rw (p, walk))
+    go (run r) p e = absurd (let i = step-inv a bs r p in let c = says-cells (read-says bs r (i .0)) .0 in omega arith)
+
+pub walk-broken : {v : List ℕ} {from n c : ℕ} {a : Bool} {m : ℕ} {f : Bool} → Zoned v from n → c < n → Meets v from n c a m f → m ≡ 0
+    → walkOn a (restOf v from n c) ≡ record { runs = []; whole = false }
+walk-broken {v} {from} {n} {c} {a} z h e k = walk-stop a (restOf v from n c) (sym (e .cells-is) ∙ k) (rw (rest-length v from n c z) (omega arith))
+
+-- a run is passed
+record On (a : Bool) (bs : List ℕ) (n : ℕ) (f : Bool) : Type 0 where
+  that : Run
+  next : nextRun a bs ≡ run that
+  cells-is : cells that ≡ n
+  free-is : isFree that ≡ f
+  room : 64 * n ≤ length bs
+  runs : walkOn a bs .runs ≡ that ∷ walkOn f (drop (64 * n) bs) .runs
+  whole : walkOn a bs .whole ≡ walkOn f (drop (64 * n) bs) .whole
+
+walk-run : (a : Bool) (bs : List ℕ) (n : ℕ) (f : Bool) → n ≡ metCells (nextRun a bs) → f ≡ metFree (nextRun a bs) → 1 ≤ n → On a bs n f
+unfolding walkOn walk
+walk-run a bs n f e g h = go (nextRun a bs) refl e g
+  where
+    go : (x : Next) → nextRun a bs ≡ x → n ≡ metCells x → f ≡ metFree x → On a bs n f
+    go ended p e g = absurd (omega arith)
+    go broken p e g = absurd (omega arith)
+    go (run r) p e g = unfold onward in (
+        let i = step-inv a bs r p in
+        let k : 64 * n ≤ length bs = rw e (i .1) in
+        let d : length (drop (64 * n) bs) ≡ length bs - 64 * n = length-drop (64 * n) bs in
+        let w : walk (length bs) (isFree r) (drop (64 * cells r) bs) ≡ walk (suc (length (drop (64 * n) bs))) f (drop (64 * n) bs) =
+        rw (← e, ← g) (walk-fuel (length bs) (suc (length (drop (64 * n) bs))) f (drop (64 * n) bs) (omega arith) (omega arith)) in
+        record {
+          that = r;
+          next = p;
+          cells-is = sym e;
+          free-is = sym g;
+          room = k;
+          runs = rw (p, walk) (ap (λ (x : Walk). r ∷ x .runs) w);
+          whole = rw (p, walk) (ap (λ (x : Walk). x .whole) w);
+        }
+        )
+
+pub walk-passed : {v : List ℕ} {from n c : ℕ} {a : Bool} {m : ℕ} {f : Bool} → Zoned v from n → c < n → Meets v from n c a m f → (m ≡ 0 → ⊥) → Passed v from n c a m f
+walk-passed {v} {from} {n} {c} {a} {m} {f} z h e k =
+    let o = walk-run a (restOf v from n c) m f (e .cells-is) (e .free-is) (omega (arith, k)) in
+    let l : length (restOf v from n c) ≡ 64 * (n - c) = rest-length v from n c z in
+    let w : c + m ≤ n = omega (arith, o .room) in
+    let d : drop (64 * m) (restOf v from n c) ≡ restOf v from n (c + m) = rest-drop v from n c m w in
+    record {
+      within = w;
+      some = omega (arith, k);
+      that = o .that;
+      cells-is = o .cells-is;
+      free-is = o .free-is;
+      next = o .next;
+      runs = o .runs ∙ ap (λ (x : List ℕ). o .that ∷ walkOn f x .runs) d;
+      whole = o .whole ∙ ap (λ (x : List ℕ). walkOn f x .whole) d;
+    }
+
+-- where the walk comes to the end, a run is met
+pub whole-passed : {v : List ℕ} {from n c : ℕ} {a : Bool} {m : ℕ} {f : Bool} → Zoned v from n → c < n → walkOn a (restOf v from n c) .whole ≡ true → Meets v from n c a m f
+    → Passed v from n c a m f
+whole-passed z h w e =
+    walk-passed z h e (λ q. let u : true ≡ false = sym w ∙ ap (λ (x : Walk). x .whole) (walk-broken z h e q) in let y : _≡_ {A = ℕ} 0 1 = cc in omega arith)
+
+-- ---- the loop that judges a zone whole
+
+pub record Judging (v : List ℕ) (from n c : ℕ) (a : Bool) : Type 0 where
+  pub within : c ≤ n
+  pub whole : walkOn a (restOf v from n c) .whole ≡ walkOf v from n .whole
+
+pub judging-start : (v : List ℕ) (from n : ℕ) → Judging v from n 0 false
+judging-start v from n = record { within = omega arith; whole = ap (λ (w : Walk). w .whole) (walk-start v from n) }
+
+pub judging-step : {v : List ℕ} {from n c : ℕ} {a : Bool} {m : ℕ} {f : Bool} → Judging v from n c a → Passed v from n c a m f → Judging v from n (c + m) f
+judging-step j p = record { within = p .within; whole = sym (p .whole) ∙ j .whole }
+
+pub judging-broken : {v : List ℕ} {from n c : ℕ} {a : Bool} {m : ℕ} {f : Bool} → Judging v from n c a → Zoned v from n → c < n → Meets v from n c a m f → m ≡ 0 → false ≡ walkOf v from n .whole
+judging-broken j z h e k = sym (ap (λ (w : Walk). w .whole) (walk-broken z h e k)) ∙ j .whole
+
+pub judging-end : {v : List ℕ} {from n c : ℕ} {a : Bool} → Judging v from n c a → Zoned v from n → n ≤ c → true ≡ walkOf v from n .whole
+judging-end {c = c} {a = a} j z h = sym (ap (λ (w : Walk). w .whole) (walk-end c a z h)) ∙ j .whole

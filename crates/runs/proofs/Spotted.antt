@@ -1,0 +1,107 @@
+-- A run found by its cell, and joined with its free neighbours. Assumes nothing.
+use Prim.Native.Nat.{ℕ, _+_, _-_, _≤_, _<_}
+use mathlib.Core.Path.{_≡_, refl, sym, ap, ap₂, _∙_, subst}
+use mathlib.Core.Bool.{Bool, true, false}
+use mathlib.Core.Option.{none, some}
+use mathlib.Core.List.{List, [], _∷_}
+use native.Mathlib.Omega.{arith}
+use lib.Dec.{eqb}
+use borrow.Author.Tests.{eq-eqb, ne-eqb}
+use Rattle.rules.specs.Runs.{Run, Walk, cells, free, isFree, object}
+use Rattle.rules.specs.Search.{Place, freeCells, joined, lead, runAt}
+use Rattle.runs.specs.Rest.{Passed, Zoned, restOf, walkOf, walkOn}
+use Rattle.runs.specs.Spotted.{Coming, Joined, Lead, Spotted, Stands, freeOf}
+use Rattle.runs.proofs.Rest.{walk-end, walk-start}
+
+pub coming-start : (v : List ℕ) (from n a : ℕ) → walkOf v from n .whole ≡ true → Coming v from n a 0 0 false
+coming-start v from n a e =
+    let w = walk-start v from n in
+    record {
+      within = omega arith;
+      low = omega arith;
+      whole = ap (λ (x : Walk). x .whole) w ∙ e;
+      seek = ap (λ (x : Walk). runAt a 0 (x .runs)) w;
+      join = ap (λ (x : Walk). joined a 0 0 (x .runs)) w;
+    }
+
+free-of : (r : Run) (m : ℕ) (f : Bool) → cells r ≡ m → isFree r ≡ f → freeOf m f ≡ freeCells r
+unfolding freeOf
+free-of (free n) m f p q = rw (← q, ← p)
+free-of (object n t b g) m f p q = rw (← q)
+
+free-le : (m : ℕ) (f : Bool) → freeOf m f ≤ m
+unfolding freeOf
+free-le m true = omega arith
+free-le m false = omega arith
+
+pub coming-step : {v : List ℕ} {from n a p c : ℕ} {f : Bool} {m : ℕ} {g : Bool} {q : ℕ} → Coming v from n a p c f → c < a → Passed v from n c f m g → q ≡ freeOf m g
+    → Coming v from n a q (c + m) g
+unfolding runAt joined
+coming-step {v} {from} {n} {a} {p} {c} {f} {m} {g} {q} k h d e =
+    let ne : eqb c a ≡ false = ne-eqb c a (λ (x : c ≡ a). omega arith) in
+    let rs : List Run = walkOn g (restOf v from n (c + m)) .runs in
+    let s : runAt a c (d .that ∷ rs) ≡ runAt a (c + m) rs = rw ne (ap (λ (x : ℕ). runAt a (c + x) rs) (d .cells-is)) in
+    let j : joined a p c (d .that ∷ rs) ≡ joined a q (c + m) rs =
+    rw ne (ap₂ (λ (x y : ℕ). joined a x (c + y) rs) (sym (e ∙ free-of (d .that) m g (d .cells-is) (d .free-is))) (d .cells-is)) in
+    record {
+      within = d .within;
+      low = omega (arith, free-le m g);
+      whole = sym (d .whole) ∙ k .whole;
+      seek = sym s ∙ sym (ap (runAt a c) (d .runs)) ∙ k .seek;
+      join = sym j ∙ sym (ap (joined a p c) (d .runs)) ∙ k .join;
+    }
+
+run-past : (a c : ℕ) (rs : List Run) → a < c → runAt a c rs ≡ none
+unfolding runAt
+run-past a c [] h = refl
+run-past a c (r ∷ rs) h = rw (ne-eqb c a (λ (x : c ≡ a). omega arith)) (run-past a (c + cells r) rs (omega arith))
+
+-- the walk passed cell a by
+pub spotted-none : {v : List ℕ} {from n a p c : ℕ} {f : Bool} {q m : ℕ} {g : Bool} → Coming v from n a p c f → a < c → m ≡ 0 → Spotted v from n a q m g
+spotted-none {v} {from} {n} {a} {p} {c} {f} k h e =
+    record {
+      absent = λ x. sym (k .seek) ∙ run-past a c (walkOn f (restOf v from n c) .runs) h;
+      present = λ x. absurd (x e);
+    }
+
+pub spotted-here : {v : List ℕ} {from n a p c : ℕ} {f : Bool} {m : ℕ} {g : Bool} → Coming v from n a p c f → c ≡ a → Passed v from n c f m g → Spotted v from n a p m g
+spotted-here {v} {from} {n} {a} {p} {c} {f} {m} {g} k e d =
+    record {
+      absent = λ x. absurd (let y = d .some in omega arith);
+      present = λ x. record { after = f; coming = subst (λ (y : ℕ). Coming v from n a p y f) e k; passed = subst (λ (y : ℕ). Passed v from n y f m g) e d };
+    }
+
+pub stands-run : {v : List ℕ} {from n a p m : ℕ} {f : Bool} (s : Stands v from n a p m f) → runAt a 0 (walkOf v from n .runs) ≡ some (s .passed .that)
+unfolding runAt
+stands-run {a = a} s = sym (s .coming .seek) ∙ ap (runAt a a) (s .passed .runs) ∙ rw (eq-eqb a a refl)
+
+-- ---- free neighbours
+
+pub lead-none : {v : List ℕ} {from n c : ℕ} {f : Bool} → Zoned v from n → c ≤ n → n ≤ c → Lead v from n c f 0
+lead-none {c = c} {f = f} z k h = record { count = sym (ap (λ (w : Walk). lead (w .runs)) (walk-end c f z h)); within = omega arith }
+
+pub lead-some : {v : List ℕ} {from n c : ℕ} {f : Bool} {m : ℕ} {g : Bool} {r : ℕ} → Passed v from n c f m g → r ≡ freeOf m g → Lead v from n c f r
+lead-some {m = m} {g = g} d e =
+    record {
+      count = e ∙ free-of (d .that) m g (d .cells-is) (d .free-is) ∙ sym (ap lead (d .runs));
+      within = omega (arith, free-le m g, d .within);
+    }
+
+module _ {v : List ℕ} {from n a p m : ℕ} {f : Bool} (s : Spotted v from n a p m f) (k : runAt a 0 (walkOf v from n .runs) ≡ none → ⊥) where
+  pub there : Stands v from n a p m f
+  there = s .present (λ e. k (s .absent e))
+
+  pub there-whole : walkOn f (restOf v from n (a + m)) .whole ≡ true
+  there-whole = sym (there .passed .whole) ∙ there .coming .whole
+
+  pub joined-is : {b : ℕ} → Lead v from n (a + m) f b → Joined v from n a (a - p) (p + (m + b))
+  unfolding joined
+  joined-is {b} e =
+      let t = there in
+      let j : joined a 0 0 (walkOf v from n .runs) ≡ record { cell = a - p; count = p + (cells (t .passed .that) + lead (walkOn f (restOf v from n (a + m)) .runs)) } =
+      sym (t .coming .join) ∙ ap (joined a p a) (t .passed .runs) ∙ rw (eq-eqb a a refl) in
+      record {
+        cell-is = sym (ap (λ (x : Place). x .cell) j);
+        count-is = sym (ap (λ (x : Place). x .count) j ∙ ap₂ (λ (x y : ℕ). p + (x + y)) (t .passed .cells-is) (sym (e .count)));
+        within = omega (arith, e .within, t .coming .low);
+      }

@@ -1,0 +1,49 @@
+-- `runs::unbroken` meets its contract. Assumes nothing.
+use Prim.Native.Nat.{_-_}
+use Rattle.stage.specs.View.{seen}
+use Rattle.runs.proofs.Rest.{Judging, judging-broken, judging-end, judging-start, judging-step, walk-passed, zoned-seen}
+use borrow.Author.Needs.{needs}
+use native.Mathlib.Omega.{arith}
+use Rattle.runs.proofs.unbroken.Statement.{statement}
+use Rattle.runs.proofs.unbroken.Tie as tie
+
+abbrev Inv-loop : tie.InvT-loop
+Inv-loop pool staging count zone cells c₀ after₀ c after = Judging (seen pool staging count) (zone .from) (zone .cells) c after
+
+abbrev μ-loop : tie.MeasureT-loop
+μ-loop pool staging count zone cells c₀ after₀ c after = zone .cells - c
+
+loop-holds : tie.Need-loop-holds Inv-loop μ-loop
+loop-holds c = judging-start _ _ _
+
+meet-requires : tie.Need-meet-requires Inv-loop μ-loop
+meet-requires c κs = search needs
+
+returns : tie.Need-returns Inv-loop μ-loop
+returns c = let s = c .before .before .before .before .before .before in judging-broken (c .before .before .before .loop .inv) (zoned-seen (s .args .staging .now) (s .args .count) (s .pre .1)) (c .before .before .loop-test .taken) (c .before .meet .ensures) (c .if1 .taken)
+
+add-c : tie.Need-add-c Inv-loop μ-loop
+add-c c = let s = c .before .before .before .before .before .before in let p = walk-passed (zoned-seen (s .args .staging .now) (s .args .count) (s .pre .1)) (c .before .before .loop-test .taken) (c .before .meet .ensures) (c .if1 .left) in omega (arith, p .within)
+
+loop-less : tie.Need-loop-less Inv-loop μ-loop
+loop-less c = let s = c .before .before .before .before .before .before in let p = walk-passed (zoned-seen (s .args .staging .now) (s .args .count) (s .pre .1)) (c .before .before .loop-test .taken) (c .before .meet .ensures) (c .if1 .left) in omega (arith, p .within, p .some)
+
+loop-again : tie.Need-loop-again Inv-loop μ-loop
+loop-again c = let s = c .before .before .before .before .before .before in let p = walk-passed (zoned-seen (s .args .staging .now) (s .args .count) (s .pre .1)) (c .before .before .loop-test .taken) (c .before .meet .ensures) (c .if1 .left) in judging-step (c .before .before .before .loop .inv) p
+
+returns-2 : tie.Need-returns-2 Inv-loop μ-loop
+returns-2 c = let s = c .before .before .before .before in judging-end (c .before .loop .inv) (zoned-seen (s .args .staging .now) (s .args .count) (s .pre .1)) (c .loop-test .left)
+
+pub unbroken-spec : {M : Type 1} → statement M
+unbroken-spec =
+    tie.close
+    (tie.spec
+    Inv-loop
+    μ-loop
+    loop-holds
+    meet-requires
+    returns
+    add-c
+    loop-less
+    loop-again
+    returns-2)

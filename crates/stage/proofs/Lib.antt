@@ -1,0 +1,3 @@
+pub mod Entries
+pub mod View
+pub mod Touched

@@ -1,0 +1,24 @@
+-- `stage::touch_head` meets its contract. Assumes nothing.
+use Rattle.stage.proofs.Touched.{touched-head}
+use borrow.Author.Needs.{needs}
+use Rattle.stage.proofs.touch_head.Statement.{statement}
+use Rattle.stage.proofs.touch_head.Tie as tie
+
+touch-requires : tie.Need-touch-requires
+touch-requires c κs = search needs
+
+add-touch : tie.Need-add-touch
+add-touch c = search needs
+
+touch-requires-2 : tie.Need-touch-requires-2
+touch-requires-2 c κs = search needs
+
+same-length : tie.Need-same-length
+same-length c = search needs
+
+returns : tie.Need-returns
+returns c = touched-head (search needs) (search needs) (c .before .before .before .before .before .before .touch .ensures) (c .before .before .touch2 .ensures)
+
+pub touch-head-spec : {M : Type 1} → statement M
+touch-head-spec =
+    tie.close (tie.spec touch-requires add-touch touch-requires-2 same-length returns)

@@ -1,0 +1,58 @@
+-- `log::valid` meets its contract. Assumes nothing.
+use Rattle.log.proofs.Logs.{valid-check, valid-high, valid-low, valid-mark, valid-rest}
+use borrow.Author.Needs.{needs}
+use Rattle.log.proofs.valid.Statement.{statement}
+use Rattle.log.proofs.valid.Tie as tie
+
+load64-requires : tie.Need-load64-requires
+load64-requires c κs = search needs
+
+count-requires : tie.Need-count-requires
+count-requires c κs = search needs
+
+returns : tie.Need-returns
+returns c = search (needs, valid-mark)
+
+returns-2 : tie.Need-returns-2
+returns-2 c = search (needs, valid-low)
+
+returns-3 : tie.Need-returns-3
+returns-3 c = search (needs, valid-high)
+
+add-check-entries : tie.Need-add-check-entries
+add-check-entries c = search needs
+
+check-entries-requires : tie.Need-check-entries-requires
+check-entries-requires c κs = search needs
+
+cast-if4 : tie.Need-cast-if4
+cast-if4 c = search needs
+
+returns-4 : tie.Need-returns-4
+returns-4 c = search (needs, valid-check)
+
+add-targets-fit : tie.Need-add-targets-fit
+add-targets-fit c = search needs
+
+targets-fit-requires : tie.Need-targets-fit-requires
+targets-fit-requires c κs = search needs
+
+returns-5 : tie.Need-returns-5
+returns-5 c = search (needs, valid-rest)
+
+pub valid-spec : {M : Type 1} → statement M
+valid-spec =
+    tie.close
+    (tie.spec
+    load64-requires
+    count-requires
+    returns
+    returns-2
+    returns-3
+    add-check-entries
+    check-entries-requires
+    cast-if4
+    returns-4
+    add-targets-fit
+    targets-fit-requires
+    returns-5)

@@ -1,0 +1,5 @@
+pub mod Fresh
+pub mod Formatting
+pub mod Mending
+pub mod Looking
+pub mod Repairing

@@ -1,0 +1,56 @@
+-- The ways out of repair. Assumes nothing.
+use Prim.Native.Nat.{ℕ, _*_, _≤_}
+use mathlib.Core.Path.{_≡_}
+use mathlib.Core.Bool.{Bool, true, false}
+use mathlib.Core.List.{List}
+use native.Mathlib.Nat.{mul-le-mul}
+use lib.ListN.{length}
+use borrow.Author.Tests.{eq-eqb, ne-eqb}
+use Rattle.rules.specs.Test.{first}
+use Rattle.rules.specs.Header.{shapeIn}
+use Rattle.rules.specs.Seals.{readTests}
+use Rattle.rules.specs.Answer.{concludePool}
+use Rattle.rules.specs.Repair.{anyAbove, anyTwo, repair, repairTests, repaired}
+use Rattle.rules.proofs.Test.{Passed, first-passed}
+use Rattle.rules.proofs.Header.{range-ranged}
+use Rattle.layout.specs.declared.Shape.{Shape}
+use Rattle.layout.specs.declared.Opened.the-variants as Opening
+use Rattle.layout.specs.Reading.{answer, shapeOf}
+use Rattle.layout.proofs.Opening.{answer-refused, open-good}
+use Rattle.pool.specs.declared.Outcome.the-variants.{Done, Refused}
+use Rattle.pool.specs.Reading.{changed}
+use Rattle.pool.proofs.Looking.{first-left, first-right, read-none, read-opened, read-shaped}
+
+module _ (p : List ℕ) where
+  pub columns-small : {s : Shape} → answer (first (readTests p)) (shapeIn p) ≡ Opening.Good s → s .zones * s .cols ≤ 16 * 64
+  columns-small {s} e = let g = range-ranged (shapeOf s) (read-shaped p e .range) in mul-le-mul (g .zones-high) (g .cols-high)
+
+  module _ (ms : List ℕ) where
+    pub repair-refused : (n : ℕ) → answer (first (readTests p)) (shapeIn p) ≡ Opening.Refused n → changed (Refused n) p ≡ repair p ms
+    unfolding repair repairTests concludePool
+    repair-refused n e = rw (first-left (readTests p) _ n (answer-refused (first (readTests p)) (shapeIn p) n e))
+
+    module _ {s : Shape} (e : answer (first (readTests p)) (shapeIn p) ≡ Opening.Good s) where
+      same : shapeOf s ≡ shapeIn p
+      same = open-good p s (read-opened p e) .2
+
+      passed : Passed (readTests p)
+      passed = first-passed (readTests p) (read-none p e)
+
+      pub repair-length : (length ms ≡ s .zones * s .cols → ⊥) → changed (Refused 8) p ≡ repair p ms
+      unfolding repair repairTests first concludePool
+      repair-length h = rw (first-right (readTests p) _ passed, ← same, ne-eqb (length ms) (s .zones * s .cols) h)
+
+      pub repair-above : (x : Bool) → length ms ≡ s .zones * s .cols → x ≡ anyAbove (shapeOf s) ms → x ≡ true → changed (Refused 8) p ≡ repair p ms
+      unfolding repair repairTests first concludePool
+      repair-above x h a t = rw (first-right (readTests p) _ passed, ← same, eq-eqb (length ms) (s .zones * s .cols) h, ← a, t)
+
+      pub repair-two : (x y : Bool) → length ms ≡ s .zones * s .cols → x ≡ anyAbove (shapeOf s) ms → x ≡ false → y ≡ anyTwo ms → y ≡ true
+          → changed (Refused 28) p ≡ repair p ms
+      unfolding repair repairTests first concludePool
+      repair-two x y h a f b t = rw (first-right (readTests p) _ passed, ← same, eq-eqb (length ms) (s .zones * s .cols) h, ← a, f, ← b, t)
+
+      pub repair-done : (x y : Bool) (q : List ℕ) → length ms ≡ s .zones * s .cols → x ≡ anyAbove (shapeOf s) ms → x ≡ false → y ≡ anyTwo ms → y ≡ false
+          → q ≡ repaired (shapeOf s) ms p → changed Done q ≡ repair p ms
+      unfolding repair repairTests first concludePool
+      repair-done x y q h a f b g r = rw (first-right (readTests p) _ passed, ← same, eq-eqb (length ms) (s .zones * s .cols) h, ← a, f, ← b, g, r)

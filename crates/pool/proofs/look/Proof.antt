@@ -1,0 +1,71 @@
+-- `pool::look` meets its contract. Assumes nothing.
+use Prim.Native.Nat.{ℕ, _+_}
+use mathlib.Core.Path.{ap, _∙_}
+use native.Mathlib.Nat.{add-comm}
+use Rattle.pool.proofs.Looking.{look-bytes, look-empty, look-other, look-room, look-same}
+use native.Mathlib.Omega.{arith}
+use borrow.Author.Needs.{needs}
+use Rattle.pool.proofs.look.Statement.{statement}
+use Rattle.pool.proofs.look.Tie as tie
+
+look-for-requires : tie.Need-look-for-requires
+look-for-requires c κs = search needs
+
+enum-told : tie.Need-enum-told
+enum-told c = search needs
+
+sub-result : tie.Need-sub-result
+sub-result c = search needs
+
+part-result-start : tie.Need-part-result-start
+part-result-start c = search needs
+
+part-result-end : tie.Need-part-result-end
+part-result-end c = search needs
+
+enum-known-at : tie.Need-enum-known-at
+enum-known-at c = search needs
+
+add-result : tie.Need-add-result
+add-result c = omega (arith, look-room _ (c .before .before .before .look-for .result) _ _ (c .before .before .before .look-for .ensures .1) (c .before .at .given .1))
+
+sub-result-2 : tie.Need-sub-result-2
+sub-result-2 c = search needs
+
+part-result-start-2 : tie.Need-part-result-start-2
+part-result-start-2 c = search needs
+
+part-result-end-2 : tie.Need-part-result-end-2
+part-result-end-2 c = omega (arith, look-room _ (c .before .before .before .look-for .result) _ _ (c .before .before .before .look-for .ensures .1) (c .before .at .given .1))
+
+returns : tie.Need-returns
+returns c =
+    let f = c .before .before .before .look-for in
+    let q = c .before .enum-told .given .1 in
+    (look-empty _ _ (f .result) (f .ensures .0) _ q, λ at n h. absurd (look-other _ _ (f .result) (f .ensures .0) _ at n q h))
+
+returns-2 : tie.Need-returns-2
+returns-2 c =
+    let s = c .before .before .before .before .before .before .args .pool in
+    let f = c .before .before .before .before .look-for in
+    let q = c .before .before .at .given .1 in (
+      look-bytes _ _ (f .result) (f .ensures .0) _ _ q,
+      λ at n h. ap (λ (o : ℕ). (s .ptr .0, o)) (add-comm _ (s .ptr .1) ∙ ap (λ (o : ℕ). s .ptr .1 + o) (look-same _ _ (f .result) (f .ensures .0) _ _ at n q h)),
+    )
+
+pub look-spec : {M : Type 1} → statement M
+look-spec =
+    tie.close
+    (tie.spec
+    look-for-requires
+    enum-told
+    sub-result
+    part-result-start
+    part-result-end
+    enum-known-at
+    add-result
+    sub-result-2
+    part-result-start-2
+    part-result-end-2
+    returns
+    returns-2)

@@ -1,0 +1,21 @@
+-- What the code's answers mean in 01's terms: this paper's number and values for each case. Assumes nothing.
+use Prim.Native.Nat.{ℕ}
+use mathlib.Core.List.{List}
+use Rattle.rules.specs.Answer.{Answer, Changed, refused, taken}
+use Rattle.rules.specs.Look as Looking
+use Rattle.pool.specs.declared.Outcome.{Outcome}
+use Rattle.pool.specs.declared.Outcome.the-variants.{Done, Refused}
+
+-- A call on the pool alone: carried out, or refused with 01's number.
+abbrev pub answerOf : Outcome → Answer
+answerOf Done = taken
+answerOf (Refused n) = refused n
+
+-- Its answer, and the pool that it leaves.
+abbrev pub changed : Outcome → List ℕ → Changed
+changed r pool = record { answer = answerOf r; pool = pool }
+
+-- The refusal of look; 0 if it is not refused.
+unfoldable pub refusalOf : Looking.Look → ℕ
+refusalOf (Looking.part at n) = 0
+refusalOf (Looking.refused n) = n

@@ -1,0 +1,167 @@
+// The public calls of the pool. None has a `requires`: each answers for all inputs, and its contract is one equation with the definition of
+// that call, which gives the answer and every byte of the pool.
+ghost use mathlib.Core.Path.{_≡_};
+ghost use Prim.Native.Nat.{ℕ, _+_, _*_, _≤_};
+ghost use lib.ListN.{length};
+ghost use Rattle.rules.specs.Shape.{pageSize, poolSize};
+ghost use Rattle.rules.specs.Header.{shapeIn};
+ghost use Rattle.rules.specs.Test.{first};
+ghost use Rattle.rules.specs.Seals.{readTests};
+ghost use Rattle.rules.specs.Format.{formatted, freshPool};
+ghost use Rattle.rules.specs.Mend.{mended, mendHeader};
+ghost use Rattle.rules.specs.Repair.{repair as repaired};
+ghost use Rattle.rules.specs.Look.{look as looked, part, seen};
+ghost use Rattle.layout.specs.Reading.{answer, InRange, shapeOf};
+ghost use Rattle.reading.specs.Reading.{lookOf, Within};
+ghost use Rattle.pool.specs.Fill.{headsFrom};
+ghost use Rattle.pool.specs.Reading.{changed, refusalOf};
+use layout::Made;
+use layout::Opened;
+use layout::Shape;
+use reading::Body;
+
+// What a call on the pool alone answers.
+pub enum Outcome {
+    Done,
+    Refused(u8),
+}
+
+// Makes a fresh pool of `zones` zones, each of `rows` data rows of `cols` pages, with the pool id `id`.
+pub fn format(pool: &mut [u8], rows: usize, cols: usize, zones: usize, id: u64) -> Outcome
+    ensures { λ r. ⌜ changed r (now (pool .exit)) ≡ formatted (now (pool .entry)) rows cols zones id ⌝ }
+{
+    match Shape::new(rows, cols, zones) {
+        Made::OutOfRange => Outcome::Refused(1),
+        Made::Good(s) => {
+            if id == 0 {
+                return Outcome::Refused(1);
+            }
+            if pool.len() != s.size() {
+                return Outcome::Refused(2);
+            }
+            fill(pool, s, id);
+            Outcome::Done
+        }
+    }
+}
+
+// The bytes of a fresh pool.
+fn fill(pool: &mut [u8], s: Shape, id: u64)
+    requires { ⌜ InRange (shapeOf s) × (length (now pool) ≡ poolSize (shapeOf s)) ⌝ }
+    ensures { λ _. ⌜ now (pool .exit) ≡ freshPool (shapeOf s) id ⌝ }
+{
+    pages::zero(pool);
+    pages::put_header(pool, 0, s.rows, s.cols, s.zones, id);
+    pages::put_header(pool, Shape::PAGE, s.rows, s.cols, s.zones, id);
+    fill_zones(pool, s);
+}
+
+// The head of one free run in each zone, and the same in its parity row.
+fn fill_zones(pool: &mut [u8], s: Shape)
+    requires { ⌜ InRange (shapeOf s) × (length (now pool) ≡ poolSize (shapeOf s)) ⌝ }
+    ensures { λ _. ⌜ now (pool .exit) ≡ headsFrom (shapeOf s) 0 (s .zones) (now (pool .entry)) ⌝ }
+{
+    let zones = s.zones;
+    let cells = s.cells();
+    let mut z = 0;
+    while z < zones {
+        let at = s.zone_at(z);
+        pages::put_free_head(pool, at, cells);
+        pages::put_free_head(pool, at + 64 * cells, cells);
+        z += 1;
+    }
+}
+
+// Copies the valid header over an invalid one.
+pub fn mend(pool: &mut [u8]) -> Outcome
+    ensures { λ r. ⌜ changed r (now (pool .exit)) ≡ mendHeader (now (pool .entry)) ⌝ }
+{
+    match layout::open(pool) {
+        Opened::Refused(n) => Outcome::Refused(n),
+        Opened::Good(s) => {
+            copy_header(pool);
+            Outcome::Done
+        }
+    }
+}
+
+fn copy_header(pool: &mut [u8])
+    requires { ⌜ 2 * pageSize ≤ length (now pool) ⌝ }
+    ensures { λ _. ⌜ now (pool .exit) ≡ mended (now (pool .entry)) ⌝ }
+{
+    if header::valid(&pool[0..256]) {
+        if header::valid(&pool[256..512]) {
+            return;
+        }
+        pages::copy(pool, 0, 256, 256);
+        return;
+    }
+    pages::copy(pool, 256, 0, 256);
+}
+
+// The pool's shape, or the first of refusals 2, 3, 4, 2, 21.
+fn open_quiet(pool: &[u8]) -> Opened
+    ensures { λ r. ⌜ r ≡ answer (first (readTests (now (pool .entry)))) (shapeIn (now (pool .entry))) ⌝ }
+{
+    match layout::open(pool) {
+        Opened::Refused(n) => Opened::Refused(n),
+        Opened::Good(s) => {
+            if log::seals_zero(s, pool) {
+                return Opened::Good(s);
+            }
+            Opened::Refused(21)
+        }
+    }
+}
+
+// Rebuilds the lost pages: `lost` has one mask a column, zone by zone; bit r means row r, bit R the parity row.
+pub fn repair(pool: &mut [u8], lost: &[u16]) -> Outcome
+    ensures { λ r. ⌜ changed r (now (pool .exit)) ≡ repaired (now (pool .entry)) (now (lost .entry)) ⌝ }
+{
+    match open_quiet(pool) {
+        Opened::Refused(n) => Outcome::Refused(n),
+        Opened::Good(s) => {
+            if lost.len() != s.zones * s.cols {
+                return Outcome::Refused(8);
+            }
+            if repair::any_above(s, lost) {
+                return Outcome::Refused(8);
+            }
+            if repair::any_two(lost) {
+                return Outcome::Refused(28);
+            }
+            repair::repair_pages(s, pool, lost);
+            Outcome::Done
+        }
+    }
+}
+
+// The part of the pool that holds the body of the object at the cell address `address`, or the first of refusals 2, 3, 4, 2, 21, 5, 23, 24, 25.
+fn look_for(pool: &[u8], address: usize) -> Body
+    ensures { λ r. ⌜ (lookOf r ≡ looked (now (pool .entry)) address) × Within (now (pool .entry)) r ⌝ }
+{
+    match open_quiet(pool) {
+        Opened::Refused(n) => Body::Refused(n),
+        Opened::Good(s) => reading::body_at(pool, s, address),
+    }
+}
+
+// Why look hands out an empty part: the refusal's number, or 0.
+pub fn look_refusal(pool: &[u8], address: usize) -> u8
+    ensures { λ r. ⌜ r ≡ refusalOf (looked (now (pool .entry)) address) ⌝ }
+{
+    match look_for(pool, address) {
+        Body::Refused(n) => n,
+        Body::At(_, _) => 0,
+    }
+}
+
+// The body of the object at the cell address `address`, in the pool itself; an empty part if it is refused.
+pub fn look(pool: &[u8], address: usize) -> &[u8]
+    ensures { λ r. ⌜ (now r ≡ seen (now (pool .entry)) (looked (now (pool .entry)) address)) × ((at n : ℕ) → looked (now (pool .entry)) address ≡ part at n → r .ptr ≡ (pool .entry .ptr .0, pool .entry .ptr .1 + at)) ⌝ }
+{
+    match look_for(pool, address) {
+        Body::Refused(_) => &pool[0..0],
+        Body::At(at, n) => &pool[at..at + n],
+    }
+}

@@ -312,8 +312,9 @@ pub recovery-starts : (recoveryStart (sealed 0 seal) .answer ≡ started) × (re
 unfolding recoveryStart concludeRecovery startRecovery isNeither remedy valid logEntries markIn countIn checkIn first number digits field word put check low high reduced poolSize row zoneCells same within inRange headerFront headerBytes pageAt headerShape headerId headerOk validHeader shapeIn differing openTests headBytes freeHead freshZone freshZones freshPool
 recovery-starts = (refl, refl)
 
--- 10 its log lost, 29 not recovering.
+-- 10 its log lost, with the record as given; 29 not recovering.
 pub recovery-steps : (recoveryStep (sealed seal 0) (replayed 1 0) .answer ≡ stored 1) × (recoveryStep fresh-pool (replayed 1 0) .answer ≡ refused 10)
+    × (recoveryStep fresh-pool (replayed 1 0) .recovery ≡ replayed 1 0)
     × (recoveryStep fresh-pool (record { work = nothing; phase = finished }) .answer ≡ refused 29)
-unfolding recoveryStep concludeRecovery recoveryTests recoveryList recoveryNext isRecovering doneSteps countAbove impossibleRecovery logLost recoverySteps redo stepAnswer madeAnswer valid logEntries markIn countIn checkIn first number digits field word put check low high reduced poolSize row zoneCells same within inRange headerFront headerBytes pageAt headerShape headerId headerOk validHeader shapeIn differing openTests headBytes freeHead freshZone freshZones freshPool
-recovery-steps = (refl, refl, refl)
+unfolding recoveryStep concludeRecovery recoveryTests recoveryList recoveryNext nextProgress isRecovering doneSteps countAbove impossibleRecovery logLost recoverySteps redo stepAnswer madeAnswer valid logEntries markIn countIn checkIn first number digits field word put check low high reduced poolSize row zoneCells same within inRange headerFront headerBytes pageAt headerShape headerId headerOk validHeader shapeIn differing openTests headBytes freeHead freshZone freshZones freshPool
+recovery-steps = (refl, refl, refl, refl)

@@ -1,3 +1,4 @@
+pub mod BenchRun
 pub mod BenchVectors
 pub mod StepRun
 pub mod FinalPool

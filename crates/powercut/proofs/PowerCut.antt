@@ -122,11 +122,11 @@ progress-on : (k n : ℕ) → eqb (suc k) n ≡ false → nextProgress k n ≡ r
 unfolding nextProgress
 progress-on k n e = rw (e, nextProgress)
 
-phase-end : (k n : ℕ) → eqb (suc k) n ≡ true → nextPhase k n ≡ closed
+pub phase-end : (k n : ℕ) → eqb (suc k) n ≡ true → nextPhase k n ≡ closed
 unfolding nextPhase
 phase-end k n e = rw (e, nextPhase)
 
-phase-on : (k n : ℕ) → eqb (suc k) n ≡ false → nextPhase k n ≡ committing (suc k)
+pub phase-on : (k n : ℕ) → eqb (suc k) n ≡ false → nextPhase k n ≡ committing (suc k)
 unfolding nextPhase
 phase-on k n e = rw (e, nextPhase)
 

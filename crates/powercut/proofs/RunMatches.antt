@@ -45,7 +45,7 @@ recoveryStartTests p = openTests p ++ (when (isNeither (remedy (shapeIn p) p)) 2
 
 -- ---- what an answer that is no refusal tells
 
-accepted-none : (g : Given) (r : Option ℕ) (a : After) → Accepted (conclude g r a .answer) → r ≡ none
+pub accepted-none : (g : Given) (r : Option ℕ) (a : After) → Accepted (conclude g r a .answer) → r ≡ none
 unfolding conclude isRefused
 accepted-none g none a f = refl
 accepted-none g (some n) a f = absurd (let z : _≡_ {A = ℕ} 0 1 = cc in omega arith)
@@ -110,7 +110,7 @@ tidy-vals [] t i = lit< tt
 tidy-vals (e ∷ es) t zero = t .1
 tidy-vals (e ∷ es) t (suc i) = tidy-vals es (t .3) i
 
-list-length : (sh : Shape) (l : List Store) → length (commitSteps sh l) ≡ commitLength (length l)
+pub list-length : (sh : Shape) (l : List Store) → length (commitSteps sh l) ≡ commitLength (length l)
 unfolding commitLength
 list-length sh [] = unfold commitSteps in refl
 list-length sh (e ∷ l) = commit-count sh (e ∷ l) (zero-lt-suc (length l))

@@ -73,23 +73,23 @@ unfolding objectTests isObject isDamaged
 named-object s v a n = (rw (lt-ltb a (s .zones * zoneCells s) (n .below)), (rw (n .whole), (rw (n .found), (rw (n .found), tt))))
 
 -- a zone in which a free run fits
-search-inv : (s : Shape) (v : List ℕ) (k z n y : ℕ) (p : Place) → search s v k z n ≡ fitted y p
-    → (y < z + n) × (fit k 0 (walkIn s v y .runs) ≡ some p)
+pub search-inv : (s : Shape) (v : List ℕ) (k z n y : ℕ) (p : Place) → search s v k z n ≡ fitted y p
+    → (y < z + n) × (walkIn s v y .whole ≡ true) × (fit k 0 (walkIn s v y .runs) ≡ some p)
 unfolding search
 search-inv s v k z zero y p e = absurd (let z : _≡_ {A = ℕ} 0 1 = cc in omega arith)
 search-inv s v k z (suc n) y p e =
     split (walkIn s v z .whole)
-    (λ w. here (λ e. search-inv s v k (suc z) n y p e) (fit k 0 (walkIn s v z .runs)) refl (rw w at e))
+    (λ w. here (λ e. search-inv s v k (suc z) n y p e) w (fit k 0 (walkIn s v z .runs)) refl (rw w at e))
     (λ w. absurd (let e′ : failed 23 ≡ fitted y p = rw w at e in let z : _≡_ {A = ℕ} 0 1 = cc in omega arith))
   where
-    here : (search s v k (suc z) n ≡ fitted y p → (y < suc z + n) × (fit k 0 (walkIn s v y .runs) ≡ some p)) → (o : Option Place) → fit k 0 (walkIn s v z .runs) ≡ o → fitIn z o (search s v k (suc z) n) ≡ fitted y p
-        → (y < z + suc n) × (fit k 0 (walkIn s v y .runs) ≡ some p)
-    here ih (some q) f e = unfold fitIn in (
+    here : (search s v k (suc z) n ≡ fitted y p → (y < suc z + n) × (walkIn s v y .whole ≡ true) × (fit k 0 (walkIn s v y .runs) ≡ some p)) → walkIn s v z .whole ≡ true → (o : Option Place)
+        → fit k 0 (walkIn s v z .runs) ≡ o → fitIn z o (search s v k (suc z) n) ≡ fitted y p → (y < z + suc n) × (walkIn s v y .whole ≡ true) × (fit k 0 (walkIn s v y .runs) ≡ some p)
+    here ih w (some q) f e = unfold fitIn in (
         let ey : z ≡ y = cc in
         let eq : q ≡ p = cc in
-        (omega arith, ap (λ (x : ℕ). fit k 0 (walkIn s v x .runs)) (sym ey) ∙ f ∙ ap (λ (x : Place). some x) eq)
+        (omega arith, ap (λ (x : ℕ). walkIn s v x .whole) (sym ey) ∙ w, ap (λ (x : ℕ). fit k 0 (walkIn s v x .runs)) (sym ey) ∙ f ∙ ap (λ (x : Place). some x) eq)
         )
-    here ih none f e = unfold fitIn in (let i = ih e in (omega (arith, i .0), i .1))
+    here ih w none f e = unfold fitIn in (let i = ih e in (omega (arith, i .0), i .1, i .2))
 
 module _ (s : Shape) (pool : List ℕ) (es : List Store) (bk : List Listed) (fp : Fits s pool) (h : Held s pool es bk) where
   abbrev v : List ℕ
@@ -140,7 +140,7 @@ module _ (s : Shape) (pool : List ℕ) (es : List Store) (bk : List Listed) (fp 
       (rw q (freed c (x .runs) (zoneData s v z) n t b true (x .laid) (x .good) (short z lt) f)) (o .0) (o .1) (o .2)
 
   -- the object's run, in the zone of the staged view
-  found-in : (a : ℕ) (n : Named s v a) (x : At s pool es bk (a / zoneCells s)) → runAt (a % zoneCells s) 0 (x .runs) ≡ some (object (n .cells) (n .tag) (n .body) true)
+  pub found-in : (a : ℕ) (n : Named s v a) (x : At s pool es bk (a / zoneCells s)) → runAt (a % zoneCells s) 0 (x .runs) ≡ some (object (n .cells) (n .tag) (n .body) true)
   unfolding runThere
   found-in a n x = sym (ap (λ (w : Walk). runAt (a % zoneCells s) 0 (w .runs)) (x .whole)) ∙ n .found
 
@@ -233,7 +233,7 @@ module _ (s : Shape) (pool : List ℕ) (es : List Store) (bk : List Listed) (fp 
       let j = and-split (leb 1 (length b)) (leb (length b) bodyLimit) w in
       let lt : z < s .zones = omega (arith, i .0) in
       let x = at-zone s pool es bk z fp h lt in
-      allocate-at z p t b lt x (leb-true 1 (length b) (j .0)) (leb-true (length b) bodyLimit (j .1)) ht hb (sym (ap (λ (w : Walk). fit (cellsFor (length b)) 0 (w .runs)) (x .whole)) ∙ i .1)
+      allocate-at z p t b lt x (leb-true 1 (length b) (j .0)) (leb-true (length b) bodyLimit (j .1)) ht hb (sym (ap (λ (w : Walk). fit (cellsFor (length b)) 0 (w .runs)) (x .whole)) ∙ i .2)
 
   -- ONE CALL
   pub plan-kept : (k : Call) → Typed k → Passed (plan s v es k .tests) → Held s pool (plan s v es k .entries) (newBook k (plan s v es k .answer) bk)

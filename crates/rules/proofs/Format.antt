@@ -5,7 +5,7 @@ use mathlib.Core.Logic.{_≢_}
 use mathlib.Core.Bool.{true, false, not, _&&_, _||_}
 use mathlib.Core.Option.{Option, none, some}
 use mathlib.Core.List.{List, [], _∷_, _++_}
-use native.Mathlib.Nat.{mul-le-mul-right, zero-lt-suc, not-suc-le-zero, le-of-suc-le-suc}
+use native.Mathlib.Nat.{mul-le-mul-right, zero-lt-suc, not-suc-le-zero, le-of-suc-le-suc, mul-le-mul}
 use native.Mathlib.Omega.{arith}
 use lib.Bits.{bitXor, xor-self, xor-zero-l, xor-zero-r}
 use lib.Dec.{leb, ltb, eqb, lit<}
@@ -25,6 +25,7 @@ use Rattle.rules.specs.Answer.{concludePool, isRefused}
 use Rattle.rules.specs.Parity.{Parity, xorTo}
 use Rattle.rules.specs.Sound.{Sound, bookOf}
 use Rattle.rules.specs.Format.{formatTests, formatted, freshPool, freshZone, freshZones}
+use Rattle.rules.proofs.Freed.{laid-free}
 use Rattle.rules.proofs.Bool.{and-join, and-split, or-false}
 use Rattle.rules.proofs.Test.{first-passed, not-not}
 use Rattle.rules.proofs.Xor.{xorTo-cong}
@@ -34,7 +35,6 @@ use Rattle.rules.proofs.Check.{check-lt}
 use Rattle.rules.proofs.Laid.{Laid, laid-zone}
 use Rattle.rules.proofs.Segments.{free-bytes, length-freeHead}
 use Rattle.rules.proofs.Zones.{Fits, good-fits, zone-length}
-use Rattle.rules.proofs.WalkLoops.{fresh-laid}
 use Rattle.rules.proofs.Header.{range-good, same-refl}
 use Rattle.rules.proofs.Examples.{bench, benchPool}
 
@@ -62,6 +62,43 @@ drop-zeros (suc k) (suc n) = drop-zeros k n ∙ ap (λ (m : ℕ). replicate m 0)
 bytes-cons : (x : ℕ) (l : List ℕ) → x < 256 → Bytes l → Bytes (x ∷ l)
 bytes-cons x l h k zero = h
 bytes-cons x l h k (suc i) = k i
+
+-- ---- a fresh zone of n cells is one free run
+pub fresh-laid : (n : ℕ) → 1 ≤ n → n < 65536 → Laid false (free n ∷ []) (freeHead n ++ drop 16 (replicate (64 * n) 0))
+fresh-laid n h s = laid-free false n (replicate (64 * n) 0) refl (length-replicate {A = ℕ} (64 * n) 0) h s
+
+-- ---- the length of a fresh zone, and of n of them
+
+module _ (sh : Shape) (g : Good sh) where
+  pub row-head : 16 ≤ rowSize sh
+  row-head = let m = mul-le-mul (g .cols-pos) (g .page-min) in omega arith
+
+  pub data-head : 16 ≤ 64 * zoneCells sh
+  data-head = let m = mul-le-mul (g .rows-pos) row-head in omega (arith, zone-cells sh g)
+
+  pub zone-size : zoneSize sh ≡ 64 * zoneCells sh + rowSize sh
+  zone-size = omega (arith, zone-cells sh g)
+
+  pub length-zone : length (freshZone sh) ≡ zoneSize sh
+  unfolding freshZone
+  length-zone =
+      let F : List ℕ = freeHead (zoneCells sh) in
+      let d = data-head in
+      let r = row-head in
+      let e = zone-size in
+      length-append (F ++ replicate (64 * zoneCells sh - 16) 0) (F ++ replicate (rowSize sh - 16) 0)
+      ∙ rw (
+        length-append F (replicate (64 * zoneCells sh - 16) 0),
+        length-append F (replicate (rowSize sh - 16) 0),
+        length-freeHead (zoneCells sh),
+        length-replicate {A = ℕ} (64 * zoneCells sh - 16) 0,
+        length-replicate {A = ℕ} (rowSize sh - 16) 0,
+      ) (omega arith)
+
+  pub length-zones : (n : ℕ) → length (freshZones sh n) ≡ n * zoneSize sh
+  unfolding freshZones
+  length-zones zero = omega arith
+  length-zones (suc n) = length-append (freshZone sh) (freshZones sh n) ∙ rw (length-zone, length-zones n) (omega arith)
 
 module _ (sh : Shape) (id : ℕ) (pg : sh .page ≡ 256) (ok : inRange sh ≡ true) (id-not : id ≢ 0) (id-lt : id < 2 ^ 64) where
   g : Good sh
@@ -168,24 +205,16 @@ module _ (sh : Shape) (id : ℕ) (pg : sh .page ≡ 256) (ok : inRange sh ≡ tr
   unfolding freshZone data-part parity-part N
   zone-is = refl
 
-  length-zone : length (freshZone sh) ≡ zoneSize sh
-  length-zone = ap length zone-is ∙ length-append data-part parity-part ∙ rw (length-data, length-parity) (let k = sizes .3 in omega arith)
-
   -- byte j of zone z
   zones-at : (n z j : ℕ) → z < n → j < zoneSize sh → getD (freshZones sh n) (z * zoneSize sh + j) 0 ≡ getD (freshZone sh) j 0
   unfolding freshZones
   zones-at zero z j h k = absurd (not-suc-le-zero h)
   zones-at (suc n) zero j h k =
       ap (λ (i : ℕ). getD (freshZone sh ++ freshZones sh n) i 0) {x = 0 * zoneSize sh + j} {y = j} (omega arith)
-      ∙ List·getD-append (freshZone sh) (freshZones sh n) 0 j (rw length-zone k)
+      ∙ List·getD-append (freshZone sh) (freshZones sh n) 0 j (rw (length-zone sh g) k)
   zones-at (suc n) (suc z) j h k =
-      ap (λ (i : ℕ). getD (freshZone sh ++ freshZones sh n) i 0) {x = suc z * zoneSize sh + j} {y = length (freshZone sh) + (z * zoneSize sh + j)} (let e = length-zone in omega arith)
+      ap (λ (i : ℕ). getD (freshZone sh ++ freshZones sh n) i 0) {x = suc z * zoneSize sh + j} {y = length (freshZone sh) + (z * zoneSize sh + j)} (let e = length-zone sh g in omega arith)
       ∙ getD-append-add (freshZone sh) (freshZones sh n) (z * zoneSize sh + j) 0 ∙ zones-at n z j (le-of-suc-le-suc h) k
-
-  zones-length : (n : ℕ) → length (freshZones sh n) ≡ n * zoneSize sh
-  unfolding freshZones
-  zones-length zero = omega arith
-  zones-length (suc n) = length-append (freshZone sh) (freshZones sh n) ∙ rw (length-zone, zones-length n) (omega arith)
 
   zone-bytes : Bytes (freshZone sh)
   zone-bytes = subst Bytes (sym zone-is) (bytes-append data-part parity-part
@@ -239,7 +268,7 @@ module _ (sh : Shape) (id : ℕ) (pg : sh .page ≡ 256) (ok : inRange sh ≡ tr
   length-P : length P ≡ poolSize sh
   length-P =
       ap length pool-is ∙ length-append H _ ∙ ap (λ (n : ℕ). length H + n) (length-append H _ ∙ ap (λ (n : ℕ). length H + n)
-      (length-append (replicate (16 * sh .page) 0) (freshZones sh (sh .zones)) ∙ ap₂ (λ (a b : ℕ). a + b) (length-replicate {A = ℕ} (16 * sh .page) 0) (zones-length (sh .zones))))
+      (length-append (replicate (16 * sh .page) 0) (freshZones sh (sh .zones)) ∙ ap₂ (λ (a b : ℕ). a + b) (length-replicate {A = ℕ} (16 * sh .page) 0) (length-zones sh g (sh .zones))))
       ∙ (let a = length-H in let e = size-eq sh g in omega arith)
 
   bytes-P : Bytes P

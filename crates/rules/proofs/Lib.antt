@@ -1,4 +1,4 @@
-pub mod Vectors
+pub mod AcceptanceVectors
 pub mod Examples
 pub mod Bool
 pub mod Chain
@@ -24,11 +24,12 @@ pub mod Held
 pub mod Calls
 pub mod StagedBook
 pub mod Look
-pub mod WalkLoops
 pub mod Header
 pub mod Transaction
 pub mod Sound
 pub mod Refusals
 pub mod Format
 pub mod Scrub
+pub mod Scan
+pub mod ScanExample
 pub mod Mend

@@ -24,7 +24,7 @@ use Rattle.rules.proofs.Search.{run-bound, run-found, run-pos}
 use Rattle.rules.proofs.Written.{body-bound, body-bytes, find-run}
 use Rattle.rules.proofs.Zones.{Fits, Zones, flat, flat-append, pick}
 use Rattle.rules.proofs.Held.{At, Held, at-zone, flat-size, view-fits}
-use Rattle.rules.proofs.Calls.{Named}
+use Rattle.rules.proofs.Calls.{Named, found-in}
 
 -- ---- a run behind other runs
 
@@ -144,18 +144,13 @@ module _ (s : Shape) (pool : List ℕ) (es : List Store) (bk : List Listed) (fp 
           let x = at-zone s pool es bk (a / zoneCells s) fp h lt in
           here n g al x (sym (all-run (a / zoneCells s) (a % zoneCells s) lt (mod-lt a (fp .cell)) x) ∙ ap (λ (k : ℕ). runAt k 0 (flat (h .rss))) (div-add-mod' a (zoneCells s)) ∙ r)
 
-  -- the object's run, in its zone
-  in-zone : (a : ℕ) (n : Named s v a) (x : At s pool es bk (a / zoneCells s)) → runAt (a % zoneCells s) 0 (x .runs) ≡ some (object (n .cells) (n .tag) (n .body) true)
-  unfolding runThere
-  in-zone a n x = sym (ap (λ (w : Walk). runAt (a % zoneCells s) 0 (w .runs)) (x .whole)) ∙ n .found
-
   -- and the other way round
   pub object-book : (a : ℕ) (n : Named s v a) → find a bk ≡ some (record { addr = a; tag = n .tag; body = n .body })
   object-book a n =
       let lt : a / zoneCells s < s .zones = div-lt-iff-lt-mul (fp .cell) .1 (n .below) in
       let x = at-zone s pool es bk (a / zoneCells s) fp h lt in
       let r : runAt a 0 (flat (h .rss)) ≡ some (object (n .cells) (n .tag) (n .body) true) =
-      ap (λ (k : ℕ). runAt k 0 (flat (h .rss))) (sym (div-add-mod' a (zoneCells s))) ∙ all-run (a / zoneCells s) (a % zoneCells s) lt (mod-lt a (fp .cell)) x ∙ in-zone a n x in
+      ap (λ (k : ℕ). runAt k 0 (flat (h .rss))) (sym (div-add-mod' a (zoneCells s))) ∙ all-run (a / zoneCells s) (a % zoneCells s) lt (mod-lt a (fp .cell)) x ∙ found-in s pool es bk fp h a n x in
       rw (← (h .books)) (run-find (flat (h .rss)) a (n .cells) (n .tag) (n .body) true (all-size .1) r)
 
   -- ITS BYTES ARE THAT BODY
@@ -167,7 +162,7 @@ module _ (s : Shape) (pool : List ℕ) (es : List Store) (bk : List Listed) (fp 
       let lt : z < s .zones = div-lt-iff-lt-mul (fp .cell) .1 (n .below) in
       let x = at-zone s pool es bk z fp h lt in
       let b : List ℕ = n .body in
-      let f : runAt c 0 (x .runs) ≡ some (object (n .cells) (n .tag) b true) = in-zone a n x in
+      let f : runAt c 0 (x .runs) ≡ some (object (n .cells) (n .tag) b true) = found-in s pool es bk fp h a n x in
       let bb : 16 + length b ≤ 64 * n .cells = body-bound c (x .runs) (zoneData s v z) (n .cells) (n .tag) b true (x .laid) f in
       let nb : c + n .cells ≤ cellCount (x .runs) = run-bound c (x .runs) (object (n .cells) (n .tag) b true) f in
       let e : zoneAt s z + 64 * c + 16 ≡ zoneAt s z + (64 * c + 16) = omega arith in

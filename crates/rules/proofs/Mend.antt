@@ -2,7 +2,7 @@
 use Prim.Native.Nat.{ℕ, _≤_}
 use mathlib.Core.Path.{_≡_, refl, sym, ap, _∙_}
 use mathlib.Core.Bool.{Bool, true, false, not, cond, _&&_, _||_}
-use mathlib.Core.List.{List, [], append-nil}
+use mathlib.Core.List.{List}
 use native.Mathlib.Omega.{arith}
 use lib.ListN.{length, take, drop, length-drop}
 use lib.Seq.{sets, length-take-le}
@@ -11,10 +11,7 @@ use Rattle.rules.specs.Header.{differing, headerOk, openTests, pageAt, s
 use Rattle.rules.specs.Mend.{mended}
 use Rattle.rules.proofs.Test.{Passed, not-not}
 use Rattle.rules.proofs.Header.{same-eq}
-use Rattle.rules.proofs.Sets.{drop-sets, part-sets-before, part-sets-behind, part-sets-in, sets-front}
-
-sets-whole : (l w : List ℕ) → length l ≡ length w → sets l 0 w ≡ w
-sets-whole l w e = ap (λ (x : List ℕ). sets x 0 w) (sym (append-nil l)) ∙ sets-front l [] w e ∙ append-nil w
+use Rattle.rules.proofs.Sets.{drop-sets, part-sets-before, part-sets-behind, part-sets-in, sets-all}
 
 page-length : (p : List ℕ) (a : ℕ) → a ≤ 256 → 512 ≤ length p → length (pageAt p a) ≡ 256
 unfolding pageAt
@@ -24,7 +21,7 @@ page-length p a h l = length-take-le 256 (drop a p) (rw (length-drop a p) (omega
 over-header : (p x : List ℕ) → 512 ≤ length p → length x ≡ 256 → (pageAt (sets p 0 x) 0 ≡ x) × (pageAt (sets p 0 x) 256 ≡ pageAt p 256)
 unfolding pageAt
 over-header p x l e = (
-  part-sets-in p 0 256 0 x (omega arith) (omega arith) ∙ sets-whole (take 256 (drop 0 p)) x (length-take-le 256 (drop 0 p) (rw (length-drop 0 p) (omega arith)) ∙ sym e),
+  part-sets-in p 0 256 0 x (omega arith) (omega arith) ∙ sets-all (take 256 (drop 0 p)) x (length-take-le 256 (drop 0 p) (rw (length-drop 0 p) (omega arith)) ∙ sym e),
   part-sets-before p 256 256 0 x (omega arith),
 )
 
@@ -32,7 +29,7 @@ over-copy : (p x : List ℕ) → 512 ≤ length p → length x ≡ 256 → (page
 unfolding pageAt
 over-copy p x l e = (
   part-sets-behind p 0 256 256 x (omega arith),
-  part-sets-in p 256 256 0 x (omega arith) (omega arith) ∙ sets-whole (take 256 (drop 256 p)) x (length-take-le 256 (drop 256 p) (rw (length-drop 256 p) (omega arith)) ∙ sym e),
+  part-sets-in p 256 256 0 x (omega arith) (omega arith) ∙ sets-all (take 256 (drop 256 p)) x (length-take-le 256 (drop 256 p) (rw (length-drop 256 p) (omega arith)) ∙ sym e),
 )
 
 abbrev Headed : List ℕ → Type 0

@@ -97,7 +97,7 @@ module _ (sh : Shape) (p : List ℕ) (g : Good sh) where
       let b = eqb-true _ 0 (all-true (sh .page) (λ i. eqb (columnByte sh p z (c * sh .page + i)) 0) r (o % sh .page) (mod-lt o pp)) in
       ap (columnByte sh p z) (sym (div-add-mod' o (sh .page))) ∙ b
 
-  parity-scrub : Parity sh p → wrongColumns sh p ≡ 0
+  pub parity-scrub : Parity sh p → wrongColumns sh p ≡ 0
   unfolding wrongColumns columnRight
   parity-scrub h =
       zero-sum (sh .zones) _ (λ z hz. zero-count (sh .cols) _ (λ c hc. ap not (true-all (sh .page) (λ i. eqb (columnByte sh p z (c * sh .page + i)) 0)
@@ -105,12 +105,12 @@ module _ (sh : Shape) (p : List ℕ) (g : Good sh) where
 
 -- ---- zones
 
-module _ (sh : Shape) (p : List ℕ) where
-  count-append : (f : Run → Bool) (a b : List Run) → countRuns f (a ++ b) ≡ countRuns f a + countRuns f b
-  unfolding countRuns
-  count-append f [] b = omega arith
-  count-append f (r ∷ a) b = rw (count-append f a b) (omega arith)
+pub count-append : (f : Run → Bool) (a b : List Run) → countRuns f (a ++ b) ≡ countRuns f a + countRuns f b
+unfolding countRuns
+count-append f [] b = omega arith
+count-append f (r ∷ a) b = rw (count-append f a b) (omega arith)
 
+module _ (sh : Shape) (p : List ℕ) where
   good-count : (rs : List Run) → countRuns (λ r. not (isGood r)) rs ≡ 0 → allGood rs ≡ true
   unfolding countRuns allGood
   good-count [] e = refl

@@ -1,11 +1,11 @@
 -- Laws of `sets` (stores in a row) that `lib.Seq` lacks.
 use Prim.Native.Nat.{ℕ, zero, suc, _+_, _≤_, _<_}
 use mathlib.Core.Path.{_≡_, refl, sym, ap, _∙_}
-use mathlib.Core.List.{List, [], _∷_, _++_}
+use mathlib.Core.List.{List, [], _∷_, _++_, append-nil}
 use native.Mathlib.Nat.{add-zero, add-suc, suc-add, zero-add}
 use native.Mathlib.Omega.{arith}
 use lib.ListN.{length, take, drop, set, length-append, length-drop, length-set, take-append-drop}
-use lib.Seq.{sets, sets-eq, length-sets, length-take-le, take-set-le, drop-set-lt, take-take, set-comm, set-set, set-append-left, take-at, drop-at}
+use lib.Seq.{sets, sets-eq, length-sets, length-take-le, take-set-le, drop-set-lt, take-take, set-comm, set-set, set-append-left, take-at, take-nil, drop-at}
 
 -- ---- `sets l i vs`: the stores of vs from index i on
 
@@ -63,6 +63,10 @@ module _ {ℓ} {A : Type ℓ} where
       ∙ rw (zero-add (length vs)) (rw (drop-at s t (length vs) e))
 
   -- stores one after the other
+  -- all of l replaced by as much
+  pub sets-all : (l vs : List A) → length l ≡ length vs → sets l 0 vs ≡ vs
+  sets-all l vs e = ap (λ (x : List A). sets x 0 vs) (sym (append-nil l)) ∙ sets-front l [] vs e ∙ append-nil vs
+
   pub sets-append : (l : List A) (i : ℕ) (us vs : List A) → sets l i (us ++ vs) ≡ sets (sets l i us) (i + length us) vs
   sets-append l i [] vs = rw (add-zero i)
   sets-append l i (u ∷ us) vs = sets-append (set l i u) (suc i) us vs ∙ rw (add-suc i (length us), suc-add i (length us))
@@ -81,6 +85,11 @@ module _ {ℓ} {A : Type ℓ} where
   part-take (suc a) m zero l h = absurd (omega arith)
   part-take (suc a) m (suc n) [] h = refl
   part-take (suc a) m (suc n) (x ∷ l) h = part-take a m n l (omega arith)
+
+  pub drop-take : (k m : ℕ) (l : List A) → drop k (take (k + m) l) ≡ take m (drop k l)
+  drop-take zero m l = rw (zero-add m)
+  drop-take (suc k) m [] = rw (suc-add k m) (sym (take-nil m))
+  drop-take (suc k) m (x ∷ l) = rw (suc-add k m) (drop-take k m l)
 
   -- stores inside a part, and outside of it
   pub part-sets-in : (l : List A) (b n o : ℕ) (ys : List A) → b + n ≤ length l → o + length ys ≤ n

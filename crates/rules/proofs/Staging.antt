@@ -1,8 +1,9 @@
--- Laws of staging: the staged view after words are touched (`lay-touch`, `lay-words`, `lay-range`), and entries kept in order (`Tidy`).
+-- Laws of staging: the limit of 127 entries (`impossible-count`, `possible-few`), the staged view after words are touched (`lay-touch`,
+-- `lay-words`, `lay-range`), and entries kept in order (`Tidy`).
 use Prim.Native.Nat.{ℕ, zero, suc, _+_, _*_, _/_, _%_, _^_, _≤_, _<_}
 use mathlib.Core.Path.{_≡_, refl, sym, ap, _∙_}
 use mathlib.Core.Logic.{_≢_, _⊎_, inl, inr}
-use mathlib.Core.Bool.{Bool, true, false}
+use mathlib.Core.Bool.{Bool, true, false, not}
 use mathlib.Core.List.{List, [], _∷_, append-assoc}
 use native.Mathlib.Omega.{arith}
 use lib.ListN.{length, take, drop, length-drop, take-append-drop}
@@ -10,10 +11,23 @@ use lib.Seq.{sets, sets-eq, length-sets, length-take-le, drop-drop}
 use lib.Dec.{leb, eqb}
 use borrow.Author.Tests.{eqb-true, eqb-false, leb-true, leb-false}
 use Rattle.rules.specs.Words.{Bytes, digits, put, word}
-use Rattle.rules.specs.Staging.{Store, lay, touch, touchRange, touchWords, wordCount, wordFrom}
+use Rattle.rules.specs.Shape.{Shape}
+use Rattle.rules.specs.Staging.{Phase, Store, entriesAt, goodTargets, impossible, lay, live, pastCommit, touch, touchRange, touchWords, wordCount, wordFrom}
 use Rattle.rules.proofs.Bool.{split}
 use Rattle.rules.proofs.Words.{bytes-drop, bytes-sets, bytes-take, digits-word, length-digits, word-lt}
 use Rattle.rules.proofs.Sets.{drop-sets, sets-append, sets-comm, sets-sets, take-sets}
+
+-- ---- up to 127 entries
+
+-- A count of 128 is impossible, whatever staging holds.
+pub impossible-count : (sh : Shape) (st : List ℕ) (ph : Phase) → impossible sh st (record { count = 128; phase = ph }) ≡ true
+unfolding impossible
+impossible-count sh st ph = refl
+
+-- A count of 127 is possible with good targets.
+pub possible-few : (sh : Shape) (st : List ℕ) → goodTargets sh (entriesAt st 0 127) ≡ true → impossible sh st (record { count = 127; phase = live }) ≡ false
+unfolding impossible pastCommit
+possible-few sh st g = ap not g
 
 -- ---- entries in order: words at multiples of 8, no target twice
 

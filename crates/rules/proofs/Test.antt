@@ -2,7 +2,7 @@
 use Prim.Native.Nat.{ℕ}
 use mathlib.Core.Path.{_≡_, refl, sym}
 use mathlib.Core.Bool.{Bool, true, false, not}
-use mathlib.Core.Option.{none}
+use mathlib.Core.Option.{none, some}
 use mathlib.Core.List.{List, [], _∷_, _++_}
 use native.Mathlib.Omega.{arith}
 use Rattle.rules.specs.Test.{Test, first, when}
@@ -39,3 +39,15 @@ pub passed-first : (ts : List Test) → Passed ts → first ts ≡ none
 unfolding first
 passed-first [] p = refl
 passed-first (when b n ∷ ts) p = rw (p .0, first) (passed-first ts (p .1))
+
+-- the first refusal of two lists of tests
+pub first-left : (ts us : List Test) (n : ℕ) → first ts ≡ some n → first (ts ++ us) ≡ some n
+unfolding first
+first-left [] us n e = absurd (let z : _≡_ {A = ℕ} 0 1 = cc in omega arith)
+first-left (when true m ∷ ts) us n e = e
+first-left (when false m ∷ ts) us n e = first-left ts us n e
+
+pub first-right : (ts us : List Test) → Passed ts → first (ts ++ us) ≡ first us
+unfolding first
+first-right [] us p = refl
+first-right (when b m ∷ ts) us p = rw (p .0) (first-right ts us (p .1))

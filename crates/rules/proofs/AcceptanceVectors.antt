@@ -1,5 +1,6 @@
 -- Worked numbers of the definitions, in the order of 01: each is computed on both sides. The checks were worked out apart from the
--- definitions, as Adler-32 (RFC 1950), which has the same two sums and modulus. Assumes nothing.
+-- definitions, as Adler-32 (RFC 1950), which has the same two sums and modulus. Files are checked by name, this one first: a slip in
+-- a definition meets a number here before any proof. Assumes nothing.
 use Prim.Native.Nat.{ℕ, zero, suc, _+_, _-_, _*_, _%_}
 use mathlib.Core.Path.{_≡_, refl}
 use mathlib.Core.Bool.{Bool, true, false}
@@ -590,15 +591,14 @@ pub goodTargets-is :
 unfolding opened
 goodTargets-is = (refl, refl, refl)
 
--- A count of 128; 2 entries are possible, one in the parity row is not.
+-- 2 entries are possible, one in the parity row is not. The limit of 127 entries: Staging's `impossible-count` and `possible-few`.
 abbrev holding : ℕ → Transaction
 holding n = record { count = n; phase = live }
 
-pub impossible-count :
-    (impossible smallest (replicate 2048 0) (holding 128) ≡ true) × (impossible smallest (entryBytes (stores 4848 2)) (holding 2) ≡ false)
-    × (impossible smallest (entryBytes (stores 4856 2)) (holding 2) ≡ true)
+pub impossible-targets :
+    (impossible smallest (entryBytes (stores 4848 2)) (holding 2) ≡ false) × (impossible smallest (entryBytes (stores 4856 2)) (holding 2) ≡ true)
 unfolding opened
-impossible-count = (refl, refl, refl)
+impossible-targets = (refl, refl)
 
 -- A commit of one entry has 15 steps: place 14 is in its list, place 15 past it. Without entries there is no list.
 pub impossible-place :
@@ -721,12 +721,10 @@ wrongColumns-is = (refl, refl, refl, refl)
 
 -- ==== poolscan
 
--- The highest digit first, no zero in front; a number of f digits needs no more steps.
-pub decimal-is :
-    (decimal 0 ≡ ascii "0") × (decimal 7 ≡ ascii "7") × (decimal 10 ≡ ascii "10") × (decimalTo 6 65535 ≡ ascii "65535")
-    × (decimalTo 11 4294967295 ≡ ascii "4294967295")
+-- The highest digit first, no zero in front. The highest tag: Scan's `decimal-highest`.
+pub decimal-is : (decimal 0 ≡ ascii "0") × (decimal 7 ≡ ascii "7") × (decimal 10 ≡ ascii "10") × (decimal 1024 ≡ ascii "1024")
 unfolding opened
-decimal-is = (refl, refl, refl, refl, refl)
+decimal-is = (refl, refl, refl, refl)
 
 -- Tag, body length and good or bad; free cells.
 pub runLine-is :

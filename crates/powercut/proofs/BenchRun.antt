@@ -1,0 +1,109 @@
+-- A whole run on a small pool, worked out: the books, the run's first states, and what the claim says of its bytes and numbers. Each is
+-- computed, and this file is checked first: a slip in the claim meets a number here before any proof. Assumes nothing.
+--
+--   R 1, C 1, Z 1, 5,120 bytes: log A at 512, row 0 at 4608: 3 free cells, then an object, which is freed
+use Prim.Native.Nat.{ℕ}
+use mathlib.Core.Path.{_≡_, refl}
+use mathlib.Core.Bool.{true, false}
+use mathlib.Core.List.{List, [], _∷_, _++_, Sublistᴰ·slnil, Sublistᴰ·cons}
+use native.Mathlib.Omega.{arith}
+use lib.ListN.{length, getD, replicate}
+use Rattle.rules.specs.Words.{ascii, digits, field, number, put, word}
+use Rattle.rules.specs.Check.{check, high, low, reduced}
+use Rattle.rules.specs.Shape.{Shape, poolSize, row, zoneAt, zoneCells}
+use Rattle.rules.specs.Test.{first}
+use Rattle.rules.specs.Header.{differing, headerBytes, headerFront, headerId, headerOk, headerShape, inRange, openTests, pageAt, same, shapeIn, validHeader, within}
+use Rattle.rules.specs.Runs.{cellsFor, checkRun, fits, freeHead, freeOk, headBytes, nextRun, objectBytes, objectOk, onward, readRun, runOf, walk, zoneWalk}
+use Rattle.rules.specs.Book.{book, strike}
+use Rattle.rules.specs.Search.{joined, runAt}
+use Rattle.rules.specs.Zones.{bookFrom, isDamaged, isObject, objectTests, poolBook, runThere, walkIn, zoneData}
+use Rattle.rules.specs.Sound.{bookOf}
+use Rattle.rules.specs.Seals.{readTests, unsealed}
+use Rattle.rules.specs.Staging.{Phase, Store, Transaction, commitLength, committing, impossible, isLive, live, pastCommit, touch, touchWords}
+use Rattle.rules.specs.Answer.{conclude, isRefused, refused}
+use Rattle.rules.specs.Plan.{Call, joinedAt, plan, release, touchFree, touchJoined}
+use Rattle.rules.specs.Calls.{begun, call, callTests, calls, entriesIn, liveTests, recordTests, staged}
+use Rattle.rules.specs.NewBook.{newBook, newBooks, onTaken}
+use Rattle.powercut.specs.Log.{sealOf}
+use Rattle.powercut.specs.Steps.{commitSteps, redo}
+use Rattle.powercut.specs.Power.{State, act, isSeal, keep, view}
+use Rattle.powercut.specs.Commit.{commitList, commitNext, commitStart, commitStep, commitTests, isCommitting, nextPhase, placeIn, startAnswer, startPhase, stepAnswer, madeAnswer}
+use Rattle.powercut.specs.Recovery.{Recovery, recovering, recoveryList}
+use Rattle.powercut.specs.WholeRun.{Accepted, Run, begin, commit, cut, cutOff, entries, holding, made, meets, resuming, step}
+use Rattle.powercut.specs.Claim.{Committed, Requirement3, oldOrNew}
+
+-- Each definition that the run goes through, opened at once.
+opened : Unit {0}
+unfolding number digits field word put reduced low high check poolSize zoneCells zoneAt row first same within inRange headerFront headerBytes pageAt headerShape headerId headerOk validHeader shapeIn differing openTests cellsFor freeOk objectOk runOf readRun fits checkRun nextRun onward walk zoneWalk headBytes freeHead objectBytes book strike joined runAt zoneData walkIn bookFrom poolBook bookOf isObject isDamaged runThere objectTests unsealed readTests touch touchWords commitLength pastCommit isLive impossible conclude isRefused touchFree joinedAt touchJoined plan entriesIn recordTests liveTests callTests staged call calls begun onTaken newBook newBooks sealOf commitSteps redo act keep isSeal commitList commitNext commitStart commitStep commitTests isCommitting nextPhase placeIn startAnswer startPhase stepAnswer madeAnswer made entries
+opened = tt
+
+abbrev sh : Shape
+sh = record { page = 256; rows = 1; cols = 1; zones = 1 }
+
+abbrev row0 : List ℕ
+row0 = freeHead 3 ++ (replicate 176 0 ++ objectBytes 5 (ascii "a"))
+
+-- With one data row the parity row repeats it.
+abbrev pool : List ℕ
+pool = headerBytes sh 1 ++ (headerBytes sh 1 ++ (replicate 4096 0 ++ (row0 ++ row0)))
+
+abbrev staging : List ℕ
+staging = replicate 2032 0
+
+-- The object freed.
+abbrev ks : List Call
+ks = release 3 ∷ []
+
+-- Old lists the object, new does not.
+pub books : (oldOrNew pool staging ks false ≡ record { addr = 3; tag = 5; body = ascii "a" } ∷ []) × (oldOrNew pool staging ks true ≡ [])
+unfolding opened
+books = (refl, refl)
+
+abbrev state : List Store → State
+state p = record { base = pool; pend = p; reached = false }
+
+abbrev txn : Phase → Transaction
+txn ph = record { count = 2; phase = ph }
+
+-- The run begins with no store pending and no seal; its start makes no store.
+pub run-begins : Run pool staging ks (holding (txn live)) (state [])
+unfolding opened
+run-begins = begin
+
+pub run-starts : Run pool staging ks (holding (txn (committing 0))) (state [])
+unfolding opened
+run-starts = commit begin refl
+
+-- The first step: the target of the first entry, into log A.
+abbrev stored : Store
+stored = record { at = 528; val = 4608 }
+
+pub run-steps : Run pool staging ks (holding (txn (committing 1))) (state (stored ∷ []))
+unfolding opened
+run-steps = step (commit begin refl) refl
+
+-- A cut that loses the store leaves the pool as it was.
+pub run-cut : Run pool staging ks cutOff (state [])
+unfolding opened
+run-cut = cut {kept = []} run-steps (Sublistᴰ·cons Sublistᴰ·slnil)
+
+-- A refused step is none of the run.
+pub refused-not-accepted : (n : ℕ) → Accepted (refused n) → true ≡ false
+unfolding isRefused
+refused-not-accepted n e = e
+
+-- ---- What the claim says of this run: two entries, 21 steps of the commit, 9 of a recovery; the joined run has 4 cells.
+
+pub commit-length : Requirement3 pool staging ks → (t : Transaction) (s : State) (k : ℕ) → Run pool staging ks (holding t) s → t .phase ≡ committing k
+    → length (commitList (meets pool staging ks s t)) ≡ 21
+unfolding opened
+commit-length r t s k run e = r .steps t s k run e .3
+
+pub recovery-length : Requirement3 pool staging ks → (r : Recovery) (s : State) (k : ℕ) → Run pool staging ks (resuming r) s → r .phase ≡ recovering k
+    → length (recoveryList (view s) r) ≡ 9
+unfolding opened
+recovery-length c r s k run e = c .resumes r s k run e .3
+
+pub joined-cells : (s : State) → Committed pool staging ks s → getD (view s) 4610 0 ≡ 4
+unfolding opened
+joined-cells s c = c .data-rows 4610 (omega arith) (omega arith) (omega arith)

@@ -1,0 +1,89 @@
+-- poolscan's own example of 01 (`scan-example`): the pool with the tag 5 object gives exactly the four lines. The parity of its 512 columns
+-- of bytes is proved for any first row, and not computed. Assumes nothing.
+use Prim.Native.Nat.{ℕ, zero, suc, _+_, _<_}
+use mathlib.Core.Path.{_≡_, refl, ap, ap₂, _∙_}
+use mathlib.Core.Option.{none}
+use mathlib.Core.List.{List, _++_}
+use native.Mathlib.Omega.{arith}
+use lib.Bits.{bitXor, xor-self, xor-zero-l, xor-zero-r}
+use lib.ListN.{length, getD, replicate, List·getD-append, length-replicate}
+use lib.Seq.{getD-append-add}
+use Rattle.rules.specs.Words.{ascii, digits, field, number, word}
+use Rattle.rules.specs.Check.{check, high, low, reduced}
+use Rattle.rules.specs.Shape.{byteAt, poolSize, zoneAt, zoneCells}
+use Rattle.rules.specs.Test.{first}
+use Rattle.rules.specs.Header.{differing, headerBytes, headerFront, headerId, headerOk, headerShape, inRange, openTests, pageAt, same, shapeIn, validHeader, within}
+use Rattle.rules.specs.Runs.{cellsFor, checkRun, fits, freeHead, freeOk, headBytes, nextRun, objectBytes, objectOk, onward, readRun, runOf, walk, zoneWalk}
+use Rattle.rules.specs.Zones.{walkIn, zoneData}
+use Rattle.rules.specs.Seals.{readTests, unsealed}
+use Rattle.rules.specs.Parity.{Parity, xorTo}
+use Rattle.rules.specs.Scrub.{wrongColumns}
+use Rattle.rules.specs.Scan.{columnsLine, concludeScan, decimal, decimalTo, poolLine, poolText, poolscan, quality, runLine, runText, scanTests, zoneLines, zonesText}
+use Rattle.rules.proofs.Header.{range-good}
+use Rattle.rules.proofs.Scrub.{parity-scrub}
+use Rattle.rules.proofs.Examples.{bench}
+
+-- ---- parity of R 2, C 2, Z 1 where the second row is zero and the parity row repeats the first
+
+behind : (a b : List ℕ) (i j : ℕ) → j ≡ length a + i → getD (a ++ b) j 0 ≡ getD b i 0
+behind a b i j e = ap (λ (n : ℕ). getD (a ++ b) n 0) e ∙ getD-append-add a b i 0
+
+zeros-at : (n i : ℕ) → i < n → (b : List ℕ) → _≡_ {A = ℕ} (getD (replicate n 0 ++ b) i 0) 0
+zeros-at zero i h b = absurd (omega arith)
+zeros-at (suc n) zero h b = refl
+zeros-at (suc n) (suc i) h b = zeros-at n i (omega arith) b
+
+column : (f : ℕ → ℕ) (x : ℕ) → f 0 ≡ x → f 1 ≡ 0 → f 2 ≡ x → xorTo 3 f ≡ 0
+unfolding xorTo
+column f x a b c = ap₂ bitXor (ap₂ bitXor (ap (bitXor 0) a ∙ xor-zero-l x) b ∙ xor-zero-r x) c ∙ xor-self x
+
+repeated-parity : (front d : List ℕ) → length front ≡ 4608 → length d ≡ 512 → Parity bench (front ++ (d ++ (replicate 512 0 ++ d)))
+unfolding byteAt
+repeated-parity front d hf hd zero o hz ho =
+    column _ (getD d o 0)
+    (behind front _ o _ (omega arith) ∙ List·getD-append d _ 0 o (omega arith))
+    (behind front _ (512 + o) _ (omega arith) ∙ (behind d _ o _ (omega arith) ∙ zeros-at 512 o ho d))
+    (behind front _ (1024 + o) _ (omega arith) ∙ (behind d _ (512 + o) _ (omega arith) ∙ behind (replicate 512 0) d o (512 + o) (omega (arith, length-replicate {A = ℕ} 512 0))))
+repeated-parity front d hf hd (suc z) o hz ho = absurd (omega arith)
+
+-- ---- the pool
+
+unfoldable pub front : List ℕ
+front = headerBytes bench 1 ++ (headerBytes bench 1 ++ replicate 4096 0)
+
+-- The tag 5 object in cell 0, then 15 free cells.
+unfoldable pub firstRow : List ℕ
+firstRow = objectBytes 5 (ascii "a") ++ (freeHead 15 ++ replicate 432 0)
+
+unfoldable pub objectPool : List ℕ
+objectPool = front ++ (firstRow ++ (replicate 512 0 ++ firstRow))
+
+length-front : length front ≡ 4608
+unfolding front headerBytes headerFront digits check low high reduced
+length-front = refl
+
+length-row : length firstRow ≡ 512
+unfolding firstRow objectBytes freeHead headBytes cellsFor digits check low high reduced
+length-row = refl
+
+columns : wrongColumns bench objectPool ≡ 0
+unfolding objectPool
+columns = parity-scrub bench objectPool (range-good bench refl (unfold inRange within in refl)) (repeated-parity front firstRow length-front length-row)
+
+-- ---- the text
+
+opens : first (scanTests objectPool) ≡ none
+unfolding objectPool front firstRow scanTests readTests openTests unsealed first same within inRange headerFront headerBytes pageAt headerShape headerId headerOk validHeader shapeIn differing poolSize number digits field word check low high reduced headBytes freeHead objectBytes cellsFor
+opens = refl
+
+shape-is : shapeIn objectPool ≡ bench
+unfolding objectPool front firstRow same within inRange headerFront headerBytes pageAt headerShape headerId headerOk validHeader shapeIn number digits field check low high reduced
+shape-is = refl
+
+zone-is : zonesText bench objectPool 0 1 ≡ ascii "(run 0 0 (object 5 1 good))\n(run 0 1 (free 15))\n"
+unfolding objectPool front firstRow zonesText zoneLines runLine runText quality decimal decimalTo walkIn zoneData zoneAt zoneCells zoneWalk walk onward nextRun checkRun fits readRun runOf freeOk objectOk number digits field check low high reduced headerFront headerBytes headBytes freeHead objectBytes cellsFor
+zone-is = refl
+
+pub scan-example : poolscan objectPool ≡ ascii "(pool 2 2 1)\n(run 0 0 (object 5 1 good))\n(run 0 1 (free 15))\n(columns (off 0))\n"
+unfolding poolscan concludeScan poolText poolLine columnsLine decimal decimalTo
+scan-example = rw (opens, shape-is, zone-is, columns)

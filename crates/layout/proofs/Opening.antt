@@ -18,8 +18,8 @@ use Rattle.rules.proofs.Header.{header-range}
 use Rattle.layout.specs.declared.Shape.{Shape}
 use Rattle.layout.specs.declared.Opened.{Opened}
 use Rattle.layout.specs.declared.Opened.the-variants.{Good, Refused}
-use Rattle.layout.specs.Reading.{InRange, answer, opened, openedBy, shapeFrom, shapeOf}
-use Rattle.layout.proofs.Range.{shape-good}
+use Rattle.layout.specs.Reading.{InRange, Shaped, answer, opened, openedBy, shapeFrom, shapeOf}
+use Rattle.layout.proofs.Range.{shape-good, size-bounds}
 
 -- ---- by the header page h, a pool of n bytes
 
@@ -118,3 +118,10 @@ module _ (p : List ℕ) where
 
   pub open-shape : (s : Shape) → opened p ≡ Good s → GoodShape (shapeOf s)
   open-shape s e = shape-good s (open-good s e .1)
+
+  pub open-shaped : (s : Shape) → opened p ≡ Good s → Shaped p (shapeOf s)
+  open-shaped s e = let g = open-good s e in record { range = g .1; size = g .0 }
+
+  -- it has room for the header pages and both logs
+  pub shaped-room : (s : Shape) → Shaped p (shapeOf s) → 4608 ≤ length p
+  shaped-room s h = let b = size-bounds s (h .range) in omega (arith, h .size, b)

@@ -5,6 +5,7 @@ use mathlib.Core.Bool.{true, not, cond}
 use mathlib.Core.Option.{Option, none, some}
 use mathlib.Core.List.{List, [], _∷_}
 use lib.Dec.{eqb}
+use lib.ListN.{length}
 use Rattle.rules.specs.Shape.{Shape as PoolShape, poolSize, shape}
 use Rattle.rules.specs.Test.{first, when}
 use Rattle.rules.specs.Header.{headerShape, inRange, openTests, shapeIn}
@@ -24,6 +25,11 @@ shapeFrom s = record { rows = s .rows; cols = s .cols; zones = s .zones }
 -- R, C and Z are in range.
 abbrev pub InRange : PoolShape → Type 0
 InRange s = inRange s ≡ true
+
+-- A pool of the shape s.
+pub record Shaped (pool : List ℕ) (s : PoolShape) : Type 0 where
+  pub range : inRange s ≡ true
+  pub size : length pool ≡ poolSize s
 
 -- A shape whose numbers are in range.
 unfoldable pub made : ℕ → ℕ → ℕ → Made

@@ -34,7 +34,7 @@ word-bytes p b a h = ap (digits 8) (word-part p a) ∙ digits-word (drop a p) (b
 take-more : (p : List ℕ) (a k m : ℕ) → take (k + m) (drop a p) ≡ take k (drop a p) ++ take m (drop (a + k) p)
 take-more p a k m = take-add k m (drop a p) ∙ ap (λ (l : List ℕ). take k (drop a p) ++ take m l) (drop-drop k a p)
 
-bytes-read : (p : List ℕ) → Bytes p → (a n : ℕ) → a + 16 * n ≤ length p → entryBytes (entriesAt p a n) ≡ take (16 * n) (drop a p)
+pub bytes-read : (p : List ℕ) → Bytes p → (a n : ℕ) → a + 16 * n ≤ length p → entryBytes (entriesAt p a n) ≡ take (16 * n) (drop a p)
 bytes-read p b a zero h = refl
 bytes-read p b a (suc n) h =
     let e : 16 * suc n ≡ 8 + (8 + 16 * n) = omega arith in

@@ -2,12 +2,12 @@
 use Prim.Native.Nat.{ℕ, _+_, _≤_, _<_}
 use mathlib.Core.Path.{_≡_, refl, sym, ap, _∙_}
 use mathlib.Core.Logic.{_⊎_, inl, inr}
-use mathlib.Core.List.{List, [], _∷_, append-nil}
+use mathlib.Core.List.{List, [], _∷_}
 use native.Mathlib.Numerals.{add-one}
 use native.Mathlib.Omega.{arith}
 use lib.ListN.{length, take, drop, getD, set, length-set}
 use lib.Seq.{sets, length-take-le, take-suc, take-all, getD-take, getD-drop}
-use Rattle.rules.proofs.Sets.{sets-append, sets-front}
+use Rattle.rules.proofs.Sets.{sets-append}
 use Rattle.rules.proofs.Words.{sets-after, sets-before}
 use Rattle.pages.specs.Written.{Apart}
 
@@ -32,10 +32,6 @@ storing-step {l} {a} {vs} {l′} {i} {j} {v} f h e b =
 
 pub storing-end : {l : List ℕ} {a : ℕ} {vs l′ : List ℕ} {i : ℕ} → Storing l a vs l′ i → length vs ≤ i → l′ ≡ sets l a vs
 storing-end {l} {a} {vs} {l′} {i} f h = f .now-is ∙ ap (sets l a) (take-all i vs h)
-
--- all of l replaced by as much
-pub sets-all : (l vs : List ℕ) → length l ≡ length vs → sets l 0 vs ≡ vs
-sets-all l vs e = ap (λ (x : List ℕ). sets x 0 vs) (sym (append-nil l)) ∙ sets-front l [] vs e ∙ append-nil vs
 
 -- a byte of a part that is copied elsewhere is as at the start
 pub copy-byte : {l : List ℕ} {from to n : ℕ} {l′ : List ℕ} {i : ℕ} → Apart (length l) from to n → Storing l to (take n (drop from l)) l′ i → i < n

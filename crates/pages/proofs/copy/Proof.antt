@@ -41,8 +41,7 @@ loop-again c =
     let a = c .before .before .before .args in
     let p = c .before .before .before .pre in
     let f = c .before .before .loop .inv in
-    let h = c .before .loop-test .taken in
-    storing-step f (omega (arith, part-length (a .s .now) (a .from) (a .n) (p .from-le))) refl (copy-byte p f h)
+    storing-step f (omega (arith, part-length (a .s .now) (a .from) (a .n) (p .from-le))) refl (copy-byte p f (omega arith))
 
 same-length : tie.Need-same-length Inv-loop μ-loop
 same-length c = search needs

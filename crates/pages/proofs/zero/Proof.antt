@@ -3,11 +3,12 @@ use Prim.Native.Nat.{ℕ, _-_, _<_}
 use mathlib.Core.Path.{_≡_, _∙_, sym}
 use native.Mathlib.Nat.{zero-add}
 use lib.ListN.{length, replicate, length-replicate, getD-replicate}
-use Rattle.pages.proofs.Storing.{Storing, storing-start, storing-step, storing-end, sets-all}
+use Rattle.pages.proofs.Storing.{Storing, storing-start, storing-step, storing-end}
 use borrow.Author.Needs.{needs}
 use native.Mathlib.Omega.{arith}
 use Rattle.pages.proofs.zero.Statement.{statement}
 use Rattle.pages.proofs.zero.Tie as tie
+use Rattle.rules.proofs.Sets.{sets-all}
 
 abbrev Inv-loop : tie.InvT-loop
 Inv-loop s₀ i₀ s i = Storing s₀ 0 (replicate (length s₀) 0) s i

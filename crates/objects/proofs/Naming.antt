@@ -17,7 +17,7 @@ use Rattle.rules.proofs.Sets.{part-take}
 use Rattle.rules.proofs.Laid.{Says, object-ok, object-says, read-says, says-cells, says-free, says-object, step-inv}
 use Rattle.rules.proofs.Segments.{cells-hold}
 use Rattle.stage.specs.View.{part}
-use Rattle.runs.specs.Rest.{restOf, walkOf}
+use Rattle.runs.specs.Rest.{Passed, restOf, walkOf}
 use Rattle.runs.specs.Spotted.{Spotted}
 use Rattle.runs.proofs.Rest.{rest-head}
 use Rattle.runs.proofs.Spotted.{stands-run}
@@ -41,9 +41,9 @@ spotted-free {v} {from} {n} {a} s e g =
     let t = s .present e in
     none-begins (runAt a 0 (walkOf v from n .runs)) (ap isObject (stands-run t) ∙ free-object (t .passed .that) (t .passed .free-is ∙ g))
 
--- an object that stands there: its head h, and the run as the head and the bytes behind it tell it
-pub record Begins (v : List ℕ) (from n a : ℕ) (h : List ℕ) : Type 0 where
-  pub is : runAt a 0 (walkOf v from n .runs) ≡ some (objectRun v (from + 64 * a) h)
+-- the object's run r at cell a: its head h, and the run as the head and the bytes behind it tell it
+pub record Heads (v : List ℕ) (from n a : ℕ) (h : List ℕ) (r : Run) : Type 0 where
+  pub is : r ≡ objectRun v (from + 64 * a) h
   pub ok : objectOk h ≡ true
   pub inside : a + headCells h ≤ n
 
@@ -52,12 +52,12 @@ says-run : {h rest : List ℕ} {r : Run} → Says h rest r → isFree r ≡ fals
 says-run (says-free s) e = absurd (let z : _≡_ {A = ℕ} 0 1 = cc in omega arith)
 says-run {h} (says-object s) e = (refl, object-ok h s)
 
-pub spotted-object : {v : List ℕ} {from n a p m : ℕ} {f : Bool} {h : List ℕ} → Spotted v from n a p m f → (m ≡ 0 → ⊥) → f ≡ false → h ≡ part 16 (from + 64 * a) v → Begins v from n a h
+-- a run that was met and is no free run is an object's
+pub passed-object : {v : List ℕ} {from n a m : ℕ} {after f : Bool} {h : List ℕ} (d : Passed v from n a after m f) → f ≡ false → h ≡ part 16 (from + 64 * a) v
+    → Heads v from n a h (d .that)
 unfolding restOf part objectRun
-spotted-object {v} {from} {n} {a} {p} {m} {f} {h} s e g k =
-    let t = s .present e in
-    let d = t .passed in
-    let i = step-inv (t .after) (restOf v from n a) (d .that) (d .next) in
+passed-object {v} {from} {n} {a} {m} {after} {f} {h} d g k =
+    let i = step-inv after (restOf v from n a) (d .that) (d .next) in
     let y = read-says (restOf v from n a) (d .that) (i .0) in
     let w = says-cells y in
     let q : take 16 (restOf v from n a) ≡ h = rest-head v from n a (omega (arith, d .within, d .some)) ∙ sym k in
@@ -66,11 +66,22 @@ spotted-object {v} {from} {n} {a} {p} {m} {f} {h} s e g k =
     part-take 16 (headLength h) (64 * (n - a)) (drop (from + 64 * a) v) (omega (arith, d .within)) ∙ ap (take (headLength h)) (drop-drop 16 (from + 64 * a) v) in
     let u = rw q at (says-run y (d .free-is ∙ g)) in
     let c : headCells h ≡ m = sym (ap (λ (r : Run). cellsIn r) (u .0)) ∙ d .cells-is in
-    record { is = stands-run t ∙ ap some (rw z at (u .0)); ok = u .1; inside = omega (arith, d .within) }
+    record { is = rw z at (u .0); ok = u .1; inside = omega (arith, d .within) }
   where
     cellsIn : Run → ℕ
     cellsIn (free n) = n
     cellsIn (object n t b g) = n
+
+-- an object stands there, with the head h
+pub record Begins (v : List ℕ) (from n a : ℕ) (h : List ℕ) : Type 0 where
+  pub that : Run
+  pub found : runAt a 0 (walkOf v from n .runs) ≡ some that
+  pub heads : Heads v from n a h that
+
+pub spotted-object : {v : List ℕ} {from n a p m : ℕ} {f : Bool} {h : List ℕ} → Spotted v from n a p m f → (m ≡ 0 → ⊥) → f ≡ false → h ≡ part 16 (from + 64 * a) v → Begins v from n a h
+spotted-object s e g k =
+    let t = s .present e in
+    record { that = t .passed .that; found = stands-run t; heads = passed-object (t .passed) g k }
 
 -- the body lies in the object's cells
 pub body-inside : (h : List ℕ) (a : ℕ) {m k : ℕ} → objectOk h ≡ true → m ≡ headLength h → a + 64 * headCells h ≤ k → a + 16 + m ≤ k

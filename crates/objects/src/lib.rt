@@ -28,6 +28,9 @@ pub fn feed_part(pool: &[u8], staging: &[u8], count: usize, s: Sums, from: usize
     requires { ⌜ Staged (now pool) (now staging) count × (from % 8 ≡ 0) × (from + n ≤ length (now pool)) × Below (s .low) (s .high) ⌝ }
     ensures { λ r. ⌜ Fed (s .low) (s .high) (part n from (seen (now (pool .entry)) (now (staging .entry)) count)) (r .low) (r .high) ⌝ }
 {
+    if count == 0 {
+        return s.feed(&pool[from..from + n]);
+    }
     let mut sums = s;
     let mut at = from;
     let mut left = n;
@@ -43,7 +46,7 @@ pub fn feed_part(pool: &[u8], staging: &[u8], count: usize, s: Sums, from: usize
 }
 
 // Whether the check in the head `h` at `at` is right over a body of `m` bytes.
-fn intact(pool: &[u8], staging: &[u8], count: usize, h: Head, at: usize, m: usize) -> bool
+pub fn intact(pool: &[u8], staging: &[u8], count: usize, h: Head, at: usize, m: usize) -> bool
     requires { ⌜ Staged (now pool) (now staging) count × (at % 8 ≡ 0) × (at + 16 + m ≤ length (now pool)) ⌝ }
     ensures { λ r. ⌜ r ≡ eqb (headCheck (headOf (h .first) (h .second))) (checkOf (covered (headOf (h .first) (h .second)) (part m (at + 16) (seen (now (pool .entry)) (now (staging .entry)) count)))) ⌝ }
 {

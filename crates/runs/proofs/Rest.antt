@@ -1,13 +1,13 @@
 -- The walk over a zone, one run further on: what is met at a cell by its head, and how the walk goes on, breaks and ends.
 -- Assumes nothing.
-use Prim.Native.Nat.{ℕ, zero, suc, _+_, _-_, _*_, _≤_, _<_}
+use Prim.Native.Nat.{ℕ, suc, _+_, _-_, _*_, _≤_, _<_}
 use mathlib.Core.Path.{_≡_, refl, sym, ap, _∙_}
 use mathlib.Core.Bool.{Bool, true, false}
 use mathlib.Core.List.{List, [], _∷_}
-use native.Mathlib.Nat.{zero-add, suc-add, sub-zero}
+use native.Mathlib.Nat.{sub-zero}
 use native.Mathlib.Omega.{arith}
 use lib.ListN.{length, take, drop, length-drop}
-use lib.Seq.{drop-drop, length-take-le, take-nil, take-take}
+use lib.Seq.{drop-drop, length-take-le, take-take}
 use borrow.Author.Tests.{le-leb, lt-leb}
 use Rattle.rules.specs.Runs.{Next, Run, Walk, broken, cells, checkRun, ended, fits, free, freeOk, headCells, isFree, nextRun, objectOk, onward, readRun, run, runOf, walk, zoneWalk}
 use Rattle.rules.proofs.Bool.{split}
@@ -15,16 +15,12 @@ use Rattle.rules.proofs.Laid.{read-says, says-cells, step-end, step-inv, walk-f
 use Rattle.stage.specs.View.{part, seen}
 use Rattle.stage.proofs.View.{length-seen}
 use Rattle.runs.specs.Rest.{Meets, Passed, Zoned, metCells, metFree, restOf, walkOf, walkOn}
+use Rattle.rules.proofs.Sets.{drop-take}
 
 pub zoned-seen : {pool : List ℕ} (st : List ℕ) (k : ℕ) {from n : ℕ} → Zoned pool from n → Zoned (seen pool st k) from n
 zoned-seen {pool} st k z = record { even = z .even; inside = rw (length-seen pool st k) (z .inside) }
 
 -- ---- a zone's rest
-
-drop-take : (k m : ℕ) (l : List ℕ) → drop k (take (k + m) l) ≡ take m (drop k l)
-drop-take zero m l = rw (zero-add m)
-drop-take (suc k) m [] = rw (suc-add k m) (sym (take-nil m))
-drop-take (suc k) m (x ∷ l) = rw (suc-add k m) (drop-take k m l)
 
 module _ (v : List ℕ) (from n : ℕ) where
   rest-start : restOf v from n 0 ≡ part (64 * n) from v

@@ -1,5 +1,5 @@
 -- Words touched in staging memory: one that has an entry (`touched-old`), one that has none (`touched-new`), words in a row
--- (`touched-none`, `touched-more`), and how many entries stand there then (`length-words`). Assumes nothing.
+-- (`touched-none`, `touched-more`), how many entries stand there then (`length-words`), and room for them (`room-next`). Assumes nothing.
 use Prim.Native.Nat.{ℕ, zero, suc, _+_, _-_, _*_, _%_, _^_, _≤_, _<_}
 use mathlib.Core.Path.{_≡_, refl, sym, ap, ap₂, _∙_}
 use mathlib.Core.Logic.{inl, inr}
@@ -17,7 +17,7 @@ use Rattle.rules.proofs.Bool.{split}
 use Rattle.rules.proofs.Words.{field-part, length-digits, length-put, number-cong, number-digits, word-put, word-put-other}
 use Rattle.rules.proofs.Sets.{drop-sets}
 use Rattle.stage.specs.View.{entriesOf}
-use Rattle.stage.specs.Touched.{Grown, Slot, Touched, TouchedWords, added, missing, slot}
+use Rattle.stage.specs.Touched.{Grown, Room, Slot, Touched, TouchedWords, added, missing, slot}
 use Rattle.stage.proofs.Entries.{entries-more, entries-put-other, length-entries, touch-fresh}
 
 drop-put : (m : ℕ) (p : List ℕ) (a w : ℕ) → a + 8 ≤ m → drop m (put p a w) ≡ drop m p
@@ -47,7 +47,7 @@ entries-found (suc n) st a o w p h l k =
       entries-found n st (a + 16) o w (omega arith) (omega arith) l (omega arith),
     ))
 
-pub touched-old : {st st′ : List ℕ} {n o i w : ℕ} → 16 * (n + 1) ≤ length st → w < 2 ^ 64 → Slot st n o i → i < n → st′ ≡ put st (16 * i + 8) w
+pub touched-old : {st st′ : List ℕ} {n o i w : ℕ} → 16 * n ≤ length st → w < 2 ^ 64 → Slot st n o i → i < n → st′ ≡ put st (16 * i + 8) w
     → Touched st n o w st′ n
 unfolding entriesOf
 touched-old {st} {st′} {n} {o} {i} {w} h l e k q =
@@ -120,7 +120,7 @@ word-front : (xs ys : List ℕ) → length xs ≡ 8 → word (xs ++ ys) 0 ≡ wo
 unfolding word
 word-front xs ys h = field-part 8 (xs ++ ys) 0 ∙ rw (take-append-le 8 xs ys (omega arith)) (sym (field-part 8 xs 0))
 
-digits-read : (w : ℕ) → w < 2 ^ 64 → word (digits 8 w) 0 ≡ w
+pub digits-read : (w : ℕ) → w < 2 ^ 64 → word (digits 8 w) 0 ≡ w
 unfolding word field
 digits-read w h = number-cong 8 (λ i. getD (digits 8 w) (0 + i) 0) (λ i. getD (digits 8 w) i 0) (λ i k. ap (λ (j : ℕ). getD (digits 8 w) j 0) (zero-add i)) ∙ number-digits 8 w h
 
@@ -152,6 +152,13 @@ missing-touch : (n o p w : ℕ) (es : List Store) → o < p → missing n p (tou
 unfolding missing
 missing-touch zero o p w es h = refl
 missing-touch (suc n) o p w es h = ap₂ _+_ (added-touch o p w es h) (missing-touch n o (p + 8) w es (omega arith))
+
+-- words behind those that are touched
+pub missing-words : (k o : ℕ) (ys : List ℕ) (es : List Store) (n p : ℕ) → o + 8 * k ≤ p → missing n p (touchWords k o ys es) ≡ missing n p es
+unfolding touchWords
+missing-words zero o ys es n p h = refl
+missing-words (suc k) o ys es n p h =
+    missing-words k (o + 8) (drop 8 ys) (touch o (word ys 0) es) n p (omega arith) ∙ missing-touch n o p (word ys 0) es (omega arith)
 
 -- 27 is decided before any store: so many entries stand there after the words are touched
 pub length-words : (n o : ℕ) (ys : List ℕ) (es : List Store) → length (touchWords n o ys es) ≡ length es + missing n o es
@@ -189,3 +196,25 @@ pub missing-end : (n o : ℕ) (es : List Store) → n ≤ 0 → missing n o es �
 unfolding missing
 missing-end zero o es h = refl
 missing-end (suc n) o es h = absurd (omega arith)
+
+-- ---- room for words that are touched
+
+pub room-count : {st : List ℕ} {n k o : ℕ} → Room st n k o → 16 * n ≤ length st
+room-count r = let h = r .held in omega arith
+
+pub room-new : {st : List ℕ} {n k o i : ℕ} → Room st n (suc k) o → Slot st n o i → n ≤ i → 16 * (n + 1) ≤ length st
+unfolding missing
+room-new r e h = let a = added-one e h in let l = r .held in omega arith
+
+pub room-first : {st : List ℕ} {n k o : ℕ} → Room st n (suc k) o → Room st n 1 o
+unfolding missing
+room-first r = record { held = let l = r .held in omega arith }
+
+-- behind the first word
+pub room-next : {st st′ : List ℕ} {n m k o w : ℕ} → Room st n (suc k) o → Touched st n o w st′ m → Room st′ m k (o + 8)
+unfolding missing
+room-next {st} {st′} {n} {m} {k} {o} {w} r t =
+    let a : m ≡ n + added o (entriesOf st n) =
+    sym (length-entries st′ m) ∙ ap length (t .entries) ∙ length-touch o w (entriesOf st n) ∙ ap (λ (x : ℕ). x + added o (entriesOf st n)) (length-entries st n) in
+    let b : missing k (o + 8) (entriesOf st′ m) ≡ missing k (o + 8) (entriesOf st n) = rw (t .entries) (missing-touch k o (o + 8) w (entriesOf st n) (omega arith)) in
+    record { held = rw (t .grown .long, b) (let l = r .held in omega arith) }

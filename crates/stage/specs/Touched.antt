@@ -29,6 +29,10 @@ unfoldable pub missing : ℕ → ℕ → List Store → ℕ
 missing zero o es = 0
 missing (suc n) o es = added o es + missing n (o + 8) es
 
+-- Staging memory st with n entries has room for the k words from offset o on; those that have an entry take none.
+pub record Room (st : List ℕ) (n k o : ℕ) : Type 0 where
+  pub held : 16 * (n + missing k o (entriesOf st n)) ≤ length st
+
 -- Staging memory st with n entries became st′ with m. Staging bytes beyond the entries never change.
 pub record Grown (st : List ℕ) (n : ℕ) (st′ : List ℕ) (m : ℕ) : Type 0 where
   pub rest : drop (16 * m) st′ ≡ drop (16 * m) st

@@ -5,7 +5,7 @@ ghost use Prim.Native.Nat.{_+_, _*_, _%_, _^_, _≤_, _<_};
 ghost use lib.ListN.{length};
 ghost use Rattle.rules.specs.Words.{digits};
 ghost use Rattle.stage.specs.View.{entriesOf, seen, Reads, Staged};
-ghost use Rattle.stage.specs.Touched.{added, missing, Slot, Touched, TouchedWords};
+ghost use Rattle.stage.specs.Touched.{added, missing, Room, Slot, Touched, TouchedWords};
 
 // The place of the entry for `target`, or `count` where there is none.
 pub fn entry_index(staging: &[u8], count: usize, target: u64) -> usize
@@ -37,7 +37,7 @@ pub fn staged_word(pool: &[u8], staging: &[u8], count: usize, at: usize) -> u64
 
 // Touches the word at `target`; the number of entries then.
 pub fn touch(staging: &mut [u8], count: usize, target: u64, word: u64) -> usize
-    requires { ⌜ 16 * (count + 1) ≤ length (now staging) ⌝ }
+    requires { ⌜ Room (now staging) count 1 target ⌝ }
     ensures { λ r. ⌜ Touched (now (staging .entry)) count target word (now (staging .exit)) r ⌝ }
 {
     let i = entry_index(staging, count, target);
@@ -52,7 +52,7 @@ pub fn touch(staging: &mut [u8], count: usize, target: u64, word: u64) -> usize
 
 // Touches the two words of a head from `target` on; the number of entries then.
 pub fn touch_head(staging: &mut [u8], count: usize, target: u64, first: u64, second: u64) -> usize
-    requires { ⌜ (16 * (count + 2) ≤ length (now staging)) × (target + 8 < 2 ^ 64) ⌝ }
+    requires { ⌜ Room (now staging) count 2 target × (target + 8 < 2 ^ 64) ⌝ }
     ensures { λ r. ⌜ TouchedWords (now (staging .entry)) count 2 target (digits 8 first ++ digits 8 second) (now (staging .exit)) r ⌝ }
 {
     let n = touch(staging, count, target, first);

@@ -1,19 +1,26 @@
 -- The object at a cell address, by the tests 5, 23, 24, 25. Assumes nothing.
 use Prim.Native.Nat.{ℕ, _+_, _*_, _/_, _%_, _≤_, _<_}
-use mathlib.Core.Path.{_≡_, sym, _∙_}
+use mathlib.Core.Path.{_≡_, sym, ap, _∙_}
 use mathlib.Core.Bool.{Bool, true, false}
 use mathlib.Core.Option.{some}
 use mathlib.Core.List.{List}
+use native.Mathlib.Omega.{arith}
+use lib.ListN.{length, length-drop}
+use lib.Seq.{length-take-le}
 use borrow.Author.Tests.{le-ltb, lt-ltb}
 use Rattle.rules.specs.Shape.{Shape, zoneCells}
 use Rattle.rules.specs.Test.{first}
 use Rattle.rules.specs.Search.{runAt}
-use Rattle.rules.specs.Zones.{headAt, isDamaged, isObject, objectTests, runThere}
+use Rattle.rules.specs.Zones.{bodyOf, headAt, isDamaged, isObject, objectTests, runThere}
+use Rattle.rules.specs.Runs.{cellsFor}
+use Rattle.rules.proofs.Calls.{object-named}
+use Rattle.rules.proofs.Test.{first-passed}
+use Rattle.stage.specs.View.{part}
 use Rattle.runs.specs.Rest.{walkOf}
 use Rattle.objects.specs.Named.{Names, runTests}
 use Rattle.objects.specs.declared.Named.{Named}
 use Rattle.objects.specs.declared.Named.the-variants.{Object, Refused}
-use Rattle.zones.specs.Found.{NamesAt, ZoneIs}
+use Rattle.zones.specs.Found.{NamedAt, NamesAt, ZoneIs}
 use Rattle.zones.proofs.Searching.{walk-in}
 
 module _ (s : Shape) (v : List ℕ) (a : ℕ) {n : ℕ} (c : n ≡ zoneCells s) where
@@ -35,3 +42,21 @@ module _ (s : Shape) (v : List ℕ) (a : ℕ) {n : ℕ} (c : n ≡ zoneCells s) 
         passed = rw (lt-ltb a (s .zones * zoneCells s) (rw (← c) h), ← c, walk-in v e, sym q ∙ p, d .is);
         object = rw (← c, walk-in v e, ← (e .from-is)) d;
       }
+
+-- ---- an object that is named
+
+module _ {s : Shape} {v : List ℕ} {a n m t : ℕ} (o : NamedAt s v a n m t) where
+  pub named-below : a < s .zones * zoneCells s
+  named-below = object-named s v a (first-passed (objectTests s v a) (o .passed)) .below
+
+  -- the body lies behind its head, in the object's cells
+  pub named-end : headAt s a + 16 + m ≤ length v
+  unfolding cellsFor
+  named-end = let w = o .object in omega (arith, w .inside, w .fewest)
+
+  pub named-body : bodyOf (runThere s v a) ≡ part m (headAt s a + 16) v
+  unfolding bodyOf
+  named-body = rw (o .object .is)
+
+  pub named-length : length (bodyOf (runThere s v a)) ≡ m
+  named-length = ap length named-body ∙ unfold part in (length-take-le m _ (rw length-drop (omega (arith, named-end))))

@@ -1,12 +1,9 @@
 -- What the search for free cells, and looking for an object at an address, find in 01's terms. Assumes nothing.
 use Prim.Native.Nat.{ℕ}
 use mathlib.Core.Path.{_≡_}
-use mathlib.Core.Bool.{true}
 use mathlib.Core.Option.{none, some}
 use mathlib.Core.List.{List}
-use lib.ListN.{length}
-use Rattle.rules.specs.Shape.{Shape as PoolShape, poolSize, zoneAt, zoneCells}
-use Rattle.rules.specs.Header.{inRange}
+use Rattle.rules.specs.Shape.{Shape as PoolShape, zoneAt, zoneCells}
 use Rattle.rules.specs.Test.{first}
 use Rattle.rules.specs.Zones.{headAt, objectTests, runThere}
 use Rattle.rules.specs.Plan.{Fit, failed, fitted}
@@ -15,11 +12,6 @@ use Rattle.objects.specs.declared.Named.{Named}
 use Rattle.objects.specs.declared.Named.the-variants as Naming
 use Rattle.zones.specs.declared.Found.{Found}
 use Rattle.zones.specs.declared.Found.the-variants.{At, Refused}
-
--- A pool of the shape s.
-pub record Shaped (pool : List ℕ) (s : PoolShape) : Type 0 where
-  pub range : inRange s ≡ true
-  pub size : length pool ≡ poolSize s
 
 -- The zone z: where its data bytes start, and their cells.
 pub record ZoneIs (s : PoolShape) (z from n : ℕ) : Type 0 where

@@ -1,14 +1,14 @@
 // The pool's zones (01, "Cells and runs"): the search for free cells, and the object at a cell address, as staged.
 ghost use mathlib.Core.Path.{_≡_};
 ghost use mathlib.Core.Bool.{_&&_};
-ghost use Prim.Native.Nat.{_<_};
+ghost use Prim.Native.Nat.{_*_, _<_};
 ghost use lib.Dec.{leb};
 ghost use Rattle.rules.specs.Shape.{zoneCells};
-ghost use Rattle.rules.specs.Header.{inRange};
+ghost use Rattle.rules.specs.Zones.{headAt};
 ghost use Rattle.rules.specs.Plan.{search as searchFrom};
 ghost use Rattle.stage.specs.View.{seen, Staged};
-ghost use Rattle.layout.specs.Reading.{shapeOf, InRange};
-ghost use Rattle.zones.specs.Found.{foundOf, NamesAt, Shaped, ZoneIs};
+ghost use Rattle.layout.specs.Reading.{shapeOf, InRange, Shaped};
+ghost use Rattle.zones.specs.Found.{foundOf, NamesAt, ZoneIs};
 use layout::Shape;
 use objects::Named;
 use runs::Met;
@@ -20,22 +20,14 @@ pub enum Found {
     Refused(u8),
 }
 
-// The cells of a zone.
-pub fn zone_cells(s: Shape) -> usize
-    requires { ⌜ InRange (shapeOf s) ⌝ }
-    ensures { λ r. ⌜ r ≡ zoneCells (shapeOf s) ⌝ }
-{
-    s.rows * s.cols * 4
-}
-
 // The zone `z`.
 pub fn zone(s: Shape, z: usize) -> Zone
     requires { ⌜ InRange (shapeOf s) × (z < s .zones) ⌝ }
     ensures { λ r. ⌜ ZoneIs (shapeOf s) z (r .from) (r .cells) ⌝ }
 {
     Zone {
-        from: 4608 + z * ((s.rows + 1) * (s.cols * 256)),
-        cells: zone_cells(s),
+        from: s.zone_at(z),
+        cells: s.cells(),
     }
 }
 
@@ -89,7 +81,7 @@ pub fn object_at(pool: &[u8], staging: &[u8], count: usize, s: Shape, a: usize) 
     requires { ⌜ Staged (now pool) (now staging) count × Shaped (now pool) (shapeOf s) ⌝ }
     ensures { λ r. ⌜ NamesAt (shapeOf s) (seen (now (pool .entry)) (now (staging .entry)) count) a r ⌝ }
 {
-    let cells = zone_cells(s);
+    let cells = s.cells();
     if s.zones * cells <= a {
         return Named::Refused(5);
     }
@@ -98,4 +90,13 @@ pub fn object_at(pool: &[u8], staging: &[u8], count: usize, s: Shape, a: usize) 
         return Named::Refused(23);
     }
     objects::in_zone(pool, staging, count, place, a % cells)
+}
+
+// Where the head of the object at the cell address `a` lies.
+pub fn head_at(s: Shape, a: usize) -> usize
+    requires { ⌜ InRange (shapeOf s) × (a < s .zones * zoneCells (shapeOf s)) ⌝ }
+    ensures { λ r. ⌜ r ≡ headAt (shapeOf s) a ⌝ }
+{
+    let cells = s.cells();
+    s.zone_at(a / cells) + 64 * (a % cells)
 }

@@ -4,7 +4,7 @@ use native.Mathlib.Nat.{le-refl}
 use Prim.Native.Nat.{_+_, _-_, _%_, _≤_}
 use lib.ListN.{length}
 use Rattle.stage.specs.View.{seen}
-use Rattle.objects.proofs.Feeding.{Feeding, feeding-start, feeding-step, feeding-end}
+use Rattle.objects.proofs.Feeding.{Feeding, fed-pool, feeding-start, feeding-step, feeding-end}
 use borrow.Author.Needs.{needs}
 use native.Mathlib.Omega.{arith}
 use Rattle.objects.proofs.feed_part.Statement.{statement}
@@ -17,11 +17,29 @@ Inv-loop pool staging count from n sums₀ at₀ left₀ sums at left =
 abbrev μ-loop : tie.MeasureT-loop
 μ-loop pool staging count from n sums₀ at₀ left₀ sums at left = left
 
+add-feed : tie.Need-add-feed Inv-loop μ-loop
+add-feed c = search needs
+
+sub-feed : tie.Need-sub-feed Inv-loop μ-loop
+sub-feed c = search needs
+
+part-feed-start : tie.Need-part-feed-start Inv-loop μ-loop
+part-feed-start c = search needs
+
+part-feed-end : tie.Need-part-feed-end Inv-loop μ-loop
+part-feed-end c = search needs
+
+feed-requires : tie.Need-feed-requires Inv-loop μ-loop
+feed-requires c κs = search needs
+
+returns : tie.Need-returns Inv-loop μ-loop
+returns c = let s = c .before .before .before .before .before in fed-pool (s .args .pool .now) (s .args .staging .now) (s .args .from) (s .args .n) (c .before .before .if1 .taken) (c .feed .ensures)
+
 loop-holds : tie.Need-loop-holds Inv-loop μ-loop
-loop-holds c = let s = c .before .before in (s .pre .1, s .pre .2, feeding-start _ _ _ (s .pre .3))
+loop-holds c = let s = c .before .before .before in (s .pre .1, s .pre .2, feeding-start _ _ _ (s .pre .3))
 
 staged-word-requires : tie.Need-staged-word-requires Inv-loop μ-loop
-staged-word-requires c κs = let s = c .before .before .before .before in (s .pre .0, c .before .loop .inv .0, omega arith)
+staged-word-requires c κs = let s = c .before .before .before .before .before in (s .pre .0, c .before .loop .inv .0, omega arith)
 
 feed-word-requires : tie.Need-feed-word-requires Inv-loop μ-loop
 feed-word-requires c κs = (c .before .before .loop .inv .2 .below, omega arith)
@@ -35,17 +53,17 @@ loop-less c = search needs
 loop-again : tie.Need-loop-again Inv-loop μ-loop
 loop-again c = (omega arith, omega arith, feeding-step 8 (omega arith) (c .before .before .loop-test .taken) (c .before .before .before .loop .inv .2) (c .before .staged-word .ensures) (c .feed-word .ensures))
 
-returns : tie.Need-returns Inv-loop μ-loop
-returns c = feeding-end (c .before .before .loop .inv .2) (c .if1 .taken)
+returns-2 : tie.Need-returns-2 Inv-loop μ-loop
+returns-2 c = feeding-end (c .before .before .loop .inv .2) (c .if2 .taken)
 
 staged-word-requires-2 : tie.Need-staged-word-requires-2 Inv-loop μ-loop
-staged-word-requires-2 c κs = let s = c .before .before .before .before .before in (s .pre .0, c .before .before .loop .inv .0, omega (arith, s .pre .0 .words))
+staged-word-requires-2 c κs = let s = c .before .before .before .before .before .before in (s .pre .0, c .before .before .loop .inv .0, omega (arith, s .pre .0 .words))
 
 feed-word-requires-2 : tie.Need-feed-word-requires-2 Inv-loop μ-loop
 feed-word-requires-2 c κs = (c .before .before .before .loop .inv .2 .below, omega arith)
 
-returns-2 : tie.Need-returns-2 Inv-loop μ-loop
-returns-2 c =
+returns-3 : tie.Need-returns-3 Inv-loop μ-loop
+returns-3 c =
     let l = c .before .before .before .before .loop in
     let k : l .left ≤ 8 = omega arith in
     let z : l .left - l .left ≡ 0 = omega arith in
@@ -57,13 +75,19 @@ feed-part-spec =
     (tie.spec
     Inv-loop
     μ-loop
+    add-feed
+    sub-feed
+    part-feed-start
+    part-feed-end
+    feed-requires
+    returns
     loop-holds
     staged-word-requires
     feed-word-requires
     add-at
     loop-less
     loop-again
-    returns
+    returns-2
     staged-word-requires-2
     feed-word-requires-2
-    returns-2)
+    returns-3)

@@ -26,12 +26,12 @@ object-requires : tie.Need-object-requires
 object-requires c κs =
     let p = c .before .before .before .before .before .before .before .pre in
     let b = spotted-object (c .before .before .before .before .locate .ensures) (c .before .before .if1 .left) (c .before .if2 .left) (c .read-head .ensures) in
-    (p .0, omega (arith, p .1 .even), omega (arith, b .inside, p .1 .inside), b .ok)
+    (p .0, omega (arith, p .1 .even), omega (arith, b .heads .inside, p .1 .inside), b .heads .ok)
 
 returns-3 : tie.Need-returns-3
 returns-3 c =
     let b = spotted-object (c .before .before .before .before .before .locate .ensures) (c .before .before .before .if1 .left) (c .before .before .if2 .left) (c .before .read-head .ensures) in
-    rw (b .is) (c .object .ensures)
+    rw (b .found, b .heads .is) (c .object .ensures)
 
 pub in-zone-spec : {M : Type 1} → statement M
 in-zone-spec = tie.close (tie.spec locate-requires returns returns-2 mul-at add-at read-head-requires object-requires returns-3)

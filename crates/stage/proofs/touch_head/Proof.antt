@@ -1,17 +1,17 @@
 -- `stage::touch_head` meets its contract. Assumes nothing.
-use Rattle.stage.proofs.Touched.{touched-head}
+use Rattle.stage.proofs.Touched.{room-first, room-next, touched-head}
 use borrow.Author.Needs.{needs}
 use Rattle.stage.proofs.touch_head.Statement.{statement}
 use Rattle.stage.proofs.touch_head.Tie as tie
 
 touch-requires : tie.Need-touch-requires
-touch-requires c κs = search needs
+touch-requires c κs = room-first (c .before .before .pre .0)
 
 add-touch : tie.Need-add-touch
 add-touch c = search needs
 
 touch-requires-2 : tie.Need-touch-requires-2
-touch-requires-2 c κs = search needs
+touch-requires-2 c κs = let h = c .before .before .before in room-next (h .before .before .before .pre .0) (h .touch .ensures)
 
 same-length : tie.Need-same-length
 same-length c = search needs

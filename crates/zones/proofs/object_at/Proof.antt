@@ -9,61 +9,61 @@ use native.Mathlib.Omega.{arith}
 use Rattle.zones.proofs.object_at.Statement.{statement}
 use Rattle.zones.proofs.object_at.Tie as tie
 
-zone-cells-requires : tie.Need-zone-cells-requires
-zone-cells-requires c κs = c .before .before .pre .1 .range
+cells-requires : tie.Need-cells-requires
+cells-requires c κs = c .before .before .pre .1 .range
 
 mul-if1 : tie.Need-mul-if1
 mul-if1 c =
     let s = c .before .before .before .before in
-    omega (arith, rw (← (c .before .zone-cells .ensures)) at (address-bound (s .args .s) (s .pre .1 .range)))
+    omega (arith, rw (← (c .before .cells .ensures .0)) at (address-bound (s .args .s) (s .pre .1 .range)))
 
 returns : tie.Need-returns
 returns c =
     let s = c .before .before .before .before .before in
-    address-past (shapeOf (s .args .s)) (seen (s .args .pool .now) (s .args .staging .now) (s .args .count)) (s .args .a) (c .before .before .zone-cells .ensures) (c .if1 .taken)
+    address-past (shapeOf (s .args .s)) (seen (s .args .pool .now) (s .args .staging .now) (s .args .count)) (s .args .a) (c .before .before .cells .ensures .0) (c .if1 .taken)
 
 div-zone : tie.Need-div-zone
 div-zone c =
     let s = c .before .before .before .before .before in
-    omega (arith, cells-some (s .args .s) (s .pre .1 .range), c .before .before .zone-cells .ensures)
+    omega (arith, cells-some (s .args .s) (s .pre .1 .range), c .before .before .cells .ensures .0)
 
 zone-requires : tie.Need-zone-requires
 zone-requires c κs =
     let s = c .before .before .before .before .before in
-    (s .pre .1 .range, address-zone (s .args .s) (s .pre .1 .range) (c .before .before .zone-cells .ensures) (c .if1 .left))
+    (s .pre .1 .range, address-zone (s .args .s) (s .pre .1 .range) (c .before .before .cells .ensures .0) (c .if1 .left))
 
 unbroken-requires : tie.Need-unbroken-requires
 unbroken-requires c κs =
     let s = c .before .before .before .before .before .before in
-    (s .pre .0, zone-inside (s .args .s) (s .pre .1 .range) (s .pre .1 .size) (address-zone (s .args .s) (s .pre .1 .range) (c .before .before .before .zone-cells .ensures) (c .before .if1 .left)) (c .zone .ensures))
+    (s .pre .0, zone-inside (s .args .s) (s .pre .1 .range) (s .pre .1 .size) (address-zone (s .args .s) (s .pre .1 .range) (c .before .before .before .cells .ensures .0) (c .before .if1 .left)) (c .zone .ensures))
 
 returns-2 : tie.Need-returns-2
 returns-2 c =
     let s = c .before .before .before .before .before .before .before .before in
-    address-broken (shapeOf (s .args .s)) (seen (s .args .pool .now) (s .args .staging .now) (s .args .count)) (s .args .a) (c .before .before .before .before .before .zone-cells .ensures) (c .before .before .before .if1 .left) (c .before .before .zone .ensures) (c .before .unbroken .ensures) (not-true (c .before .unbroken .result) (c .if2 .taken))
+    address-broken (shapeOf (s .args .s)) (seen (s .args .pool .now) (s .args .staging .now) (s .args .count)) (s .args .a) (c .before .before .before .before .before .cells .ensures .0) (c .before .before .before .if1 .left) (c .before .before .zone .ensures) (c .before .unbroken .ensures) (not-true (c .before .unbroken .result) (c .if2 .taken))
 
 rem-in-zone : tie.Need-rem-in-zone
 rem-in-zone c =
     let s = c .before .before .before .before .before .before .before .before in
-    omega (arith, cells-some (s .args .s) (s .pre .1 .range), c .before .before .before .before .before .zone-cells .ensures)
+    omega (arith, cells-some (s .args .s) (s .pre .1 .range), c .before .before .before .before .before .cells .ensures .0)
 
 in-zone-requires : tie.Need-in-zone-requires
 in-zone-requires c κs =
     let s = c .before .before .before .before .before .before .before .before in
-    let e = c .before .before .before .before .before .zone-cells .ensures in
+    let e = c .before .before .before .before .before .cells .ensures .0 in
     let z = c .before .before .zone .ensures in
     (s .pre .0, zone-inside (s .args .s) (s .pre .1 .range) (s .pre .1 .size) (address-zone (s .args .s) (s .pre .1 .range) e (c .before .before .before .if1 .left)) z, address-cell (s .args .s) (s .pre .1 .range) (s .args .a) e (z .cells-is), sym (c .before .unbroken .ensures) ∙ not-false (c .before .unbroken .result) (c .if2 .left))
 
 returns-3 : tie.Need-returns-3
 returns-3 c =
     let s = c .before .before .before .before .before .before .before .before .before in
-    address-named (shapeOf (s .args .s)) (seen (s .args .pool .now) (s .args .staging .now) (s .args .count)) (s .args .a) (c .before .before .before .before .before .before .zone-cells .ensures) (c .in-zone .result) (c .before .before .before .before .if1 .left) (c .before .before .before .zone .ensures) (c .before .before .unbroken .ensures) (not-false (c .before .before .unbroken .result) (c .before .if2 .left)) (c .in-zone .ensures)
+    address-named (shapeOf (s .args .s)) (seen (s .args .pool .now) (s .args .staging .now) (s .args .count)) (s .args .a) (c .before .before .before .before .before .before .cells .ensures .0) (c .in-zone .result) (c .before .before .before .before .if1 .left) (c .before .before .before .zone .ensures) (c .before .before .unbroken .ensures) (not-false (c .before .before .unbroken .result) (c .before .if2 .left)) (c .in-zone .ensures)
 
 pub object-at-spec : {M : Type 1} → statement M
 object-at-spec =
     tie.close
     (tie.spec
-    zone-cells-requires
+    cells-requires
     mul-if1
     returns
     div-zone

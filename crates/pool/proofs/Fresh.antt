@@ -3,7 +3,7 @@ use Prim.Native.Nat.{ℕ, zero, suc, _+_, _-_, _*_, _≤_, _<_}
 use mathlib.Core.Path.{_≡_, refl, sym, ap, _∙_}
 use mathlib.Core.List.{List, _++_, append-assoc, append-nil}
 use native.Mathlib.Numerals.{add-one}
-use native.Mathlib.Nat.{add-zero, zero-add, mul-le-mul-right, mul-le-mul, suc-mul, zero-mul}
+use native.Mathlib.Nat.{add-zero, zero-add, mul-le-mul-right, suc-mul, zero-mul}
 use native.Mathlib.Omega.{arith}
 use lib.ListN.{length, replicate, length-append, length-replicate, replicate-append-replicate, take}
 use lib.Seq.{sets, length-sets, length-take-le}
@@ -14,12 +14,12 @@ use Rattle.rules.specs.Header.{headerBytes, headerFront}
 use Rattle.rules.specs.Runs.{freeHead}
 use Rattle.rules.proofs.Words.{length-digits}
 use Rattle.pages.proofs.Header.{header-on-zeros}
-use Rattle.pages.proofs.Storing.{sets-all}
 use Rattle.rules.specs.Format.{freshPool, freshZone, freshZones}
 use Rattle.pool.specs.Fill.{headsFrom}
-use Rattle.rules.proofs.Sets.{sets-front, sets-left, sets-mid, sets-right}
-use Rattle.rules.proofs.Shape.{Good, size-eq, zone-cells, zone-end}
+use Rattle.rules.proofs.Sets.{sets-front, sets-left, sets-mid, sets-right, sets-all}
+use Rattle.rules.proofs.Shape.{Good, size-eq, zone-end}
 use Rattle.rules.proofs.Segments.{length-freeHead}
+use Rattle.rules.proofs.Format.{row-head, data-head, zone-size, length-zones}
 
 abbrev zeros : ℕ → List ℕ
 zeros n = replicate n 0
@@ -64,15 +64,6 @@ module _ (sh : Shape) (id : ℕ) where
 -- ---- the zones
 
 module _ (sh : Shape) (g : Good sh) where
-  row-head : 16 ≤ rowSize sh
-  row-head = let m = mul-le-mul (g .cols-pos) (g .page-min) in omega arith
-
-  data-head : 16 ≤ 64 * zoneCells sh
-  data-head = let m = mul-le-mul (g .rows-pos) row-head in omega (arith, zone-cells sh g)
-
-  zone-size : zoneSize sh ≡ 64 * zoneCells sh + rowSize sh
-  zone-size = omega (arith, zone-cells sh g)
-
   -- one zone
   zone-zeros : sets (sets (zeros (zoneSize sh)) 0 (freeHead (zoneCells sh))) (64 * zoneCells sh) (freeHead (zoneCells sh)) ≡ freshZone sh
   unfolding freshZone
@@ -80,31 +71,20 @@ module _ (sh : Shape) (g : Good sh) where
       let N : ℕ = zoneCells sh in
       let F : List ℕ = freeHead N in
       let l : 16 ≡ length F = sym (length-freeHead N) in
-      let e : zeros (zoneSize sh) ≡ zeros (64 * N) ++ zeros (rowSize sh) = ap zeros zone-size ∙ zeros-add (64 * N) (rowSize sh) in
+      let e : zeros (zoneSize sh) ≡ zeros (64 * N) ++ zeros (rowSize sh) = ap zeros (zone-size sh g) ∙ zeros-add (64 * N) (rowSize sh) in
       let d : sets (zeros (zoneSize sh)) 0 F ≡ (F ++ zeros (64 * N - 16)) ++ zeros (rowSize sh) =
-      ap (λ (x : List ℕ). sets x 0 F) e ∙ sets-left (zeros (64 * N)) (zeros (rowSize sh)) 0 F (rw (length-replicate {A = ℕ} (64 * N) 0) (let k = data-head in omega arith))
-      ∙ ap (λ (x : List ℕ). x ++ zeros (rowSize sh)) (head-zeros N (64 * N) data-head) in
-      let n : length (F ++ zeros (64 * N - 16)) ≡ 64 * N = length-append F (zeros (64 * N - 16)) ∙ rw (length-replicate {A = ℕ} (64 * N - 16) 0) (let k = data-head in omega arith) in
+      ap (λ (x : List ℕ). sets x 0 F) e ∙ sets-left (zeros (64 * N)) (zeros (rowSize sh)) 0 F (rw (length-replicate {A = ℕ} (64 * N) 0) (let k = data-head sh g in omega arith))
+      ∙ ap (λ (x : List ℕ). x ++ zeros (rowSize sh)) (head-zeros N (64 * N) (data-head sh g)) in
+      let n : length (F ++ zeros (64 * N - 16)) ≡ 64 * N = length-append F (zeros (64 * N - 16)) ∙ rw (length-replicate {A = ℕ} (64 * N - 16) 0) (let k = data-head sh g in omega arith) in
       ap (λ (x : List ℕ). sets x (64 * N) F) d
       ∙ ap (λ (i : ℕ). sets ((F ++ zeros (64 * N - 16)) ++ zeros (rowSize sh)) i F) (sym n ∙ sym (add-zero (length (F ++ zeros (64 * N - 16)))))
       ∙ sets-right (F ++ zeros (64 * N - 16)) (zeros (rowSize sh)) 0 F
-      ∙ ap (λ (x : List ℕ). (F ++ zeros (64 * N - 16)) ++ x) (head-zeros N (rowSize sh) row-head)
+      ∙ ap (λ (x : List ℕ). (F ++ zeros (64 * N - 16)) ++ x) (head-zeros N (rowSize sh) (row-head sh g))
 
   fresh-snoc : (n : ℕ) → freshZones sh n ++ freshZone sh ≡ freshZones sh (suc n)
   unfolding freshZones
   fresh-snoc zero = sym (append-nil (freshZone sh))
   fresh-snoc (suc n) = append-assoc (freshZone sh) (freshZones sh n) (freshZone sh) ∙ ap (λ (l : List ℕ). freshZone sh ++ l) (fresh-snoc n)
-
-  length-zone : length (freshZone sh) ≡ zoneSize sh
-  length-zone =
-      ap length (sym zone-zeros) ∙ length-sets (sets (zeros (zoneSize sh)) 0 (freeHead (zoneCells sh))) (64 * zoneCells sh) (freeHead (zoneCells sh))
-      ∙ length-sets (zeros (zoneSize sh)) 0 (freeHead (zoneCells sh)) ∙ length-replicate {A = ℕ} (zoneSize sh) 0
-
-  length-zones : (n : ℕ) → length (freshZones sh n) ≡ n * zoneSize sh
-  unfolding freshZones
-  length-zones zero = sym (zero-mul (zoneSize sh))
-  length-zones (suc n) =
-      length-append (freshZone sh) (freshZones sh n) ∙ rw (length-zone, length-zones n, suc-mul n (zoneSize sh)) (omega arith)
 
   -- a pool of which the front and the first z zones are made
   abbrev pub begunZones : List ℕ → ℕ → List ℕ
@@ -123,14 +103,14 @@ module _ (sh : Shape) (g : Good sh) where
       let e : begunZones front z ≡ A ++ (zeros (zoneSize sh) ++ T) =
       sym (append-assoc front (freshZones sh z) (zeros ((sh .zones - z) * zoneSize sh)))
       ∙ ap (λ (x : List ℕ). A ++ x) (ap zeros m ∙ zeros-add (zoneSize sh) ((sh .zones - suc z) * zoneSize sh)) in
-      let n : length A ≡ zoneAt sh z = length-append front (freshZones sh z) ∙ rw (l, length-zones z) in
+      let n : length A ≡ zoneAt sh z = length-append front (freshZones sh z) ∙ rw (l, length-zones sh g z) in
       let q : 16 ≡ length F = sym (length-freeHead (zoneCells sh)) in
       rw e (
       ap (λ (x : List ℕ). sets x (zoneAt sh z + 64 * zoneCells sh) F)
       (ap (λ (i : ℕ). sets (A ++ (zeros (zoneSize sh) ++ T)) i F) (sym (add-zero (zoneAt sh z)))
-      ∙ sets-mid A (zeros (zoneSize sh)) T (zoneAt sh z) 0 F n (rw (length-replicate {A = ℕ} (zoneSize sh) 0) (let k = zone-size in let d = data-head in omega arith)))
+      ∙ sets-mid A (zeros (zoneSize sh)) T (zoneAt sh z) 0 F n (rw (length-replicate {A = ℕ} (zoneSize sh) 0) (let k = zone-size sh g in let d = data-head sh g in omega arith)))
       ∙ sets-mid A (sets (zeros (zoneSize sh)) 0 F) T (zoneAt sh z) (64 * zoneCells sh) F n
-      (rw (length-sets (zeros (zoneSize sh)) 0 F, length-replicate {A = ℕ} (zoneSize sh) 0) (let k = zone-size in let d = row-head in omega arith))
+      (rw (length-sets (zeros (zoneSize sh)) 0 F, length-replicate {A = ℕ} (zoneSize sh) 0) (let k = zone-size sh g in let d = row-head sh g in omega arith))
       ∙ ap (λ (x : List ℕ). A ++ (x ++ T)) zone-zeros
       ∙ append-assoc front (freshZones sh z) (freshZone sh ++ T)
       ∙ ap (λ (x : List ℕ). front ++ x) (sym (append-assoc (freshZones sh z) (freshZone sh) T) ∙ ap (λ (x : List ℕ). x ++ T) (fresh-snoc z))

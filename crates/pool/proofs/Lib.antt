@@ -3,3 +3,4 @@ pub mod Formatting
 pub mod Mending
 pub mod Looking
 pub mod Repairing
+pub mod Scrubbing

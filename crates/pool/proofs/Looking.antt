@@ -1,83 +1,34 @@
--- A pool opened for reading, and the object at an address, way out by way out. Assumes nothing.
+-- The object at an address, way out by way out. Assumes nothing.
 use Prim.Native.Nat.{ℕ, _+_, _-_, _≤_}
-use mathlib.Core.Path.{_≡_, refl, sym, ap, _∙_}
-use mathlib.Core.Bool.{Bool, true, false}
-use mathlib.Core.Option.{none, some}
-use mathlib.Core.List.{List, [], _∷_, _++_}
+use mathlib.Core.Path.{_≡_, sym, ap, _∙_}
+use mathlib.Core.List.{List, []}
 use native.Mathlib.Omega.{arith}
 use native.Mathlib.Nat.{add-sub-cancel-left}
 use lib.ListN.{length, take, drop}
-use Rattle.rules.specs.Test.{Test, first, when}
-use Rattle.rules.specs.Header.{openTests, shapeIn}
-use Rattle.rules.specs.Seals.{readTests, sealTest, unsealed}
+use Rattle.rules.specs.Test.{first}
+use Rattle.rules.specs.Header.{shapeIn}
+use Rattle.rules.specs.Seals.{readTests}
 use Rattle.rules.specs.Zones.{objectTests}
 use Rattle.rules.specs.Look.{Look, concludeLook, look, lookTests, part, refused, seen}
-use Rattle.rules.proofs.Test.{Passed, first-passed, passed-left}
+use Rattle.rules.proofs.Test.{first-left, first-passed, first-right}
 use Rattle.layout.specs.declared.Shape.{Shape}
 use Rattle.layout.specs.declared.Opened.the-variants as Opening
 use Rattle.layout.specs.Reading.{answer, opened, shapeOf}
-use Rattle.layout.proofs.Range.{size-bounds}
-use Rattle.layout.proofs.Opening.{answer-good, answer-refused, open-good, open-passed, open-refused, passed-open}
-use Rattle.zones.specs.Found.{Shaped}
+use Rattle.layout.proofs.Opening.{answer-refused, open-good}
+use Rattle.opening.proofs.Reading.{read-none, read-opened}
 use Rattle.reading.specs.declared.Body.{Body}
 use Rattle.reading.specs.declared.Body.the-variants.{At, Refused}
 use Rattle.reading.specs.Reading.{Within, lookIn, lookOf}
 use Rattle.pool.specs.Reading.{refusalOf}
 
--- the first refusal of two lists of tests
-pub first-left : (ts us : List Test) (n : ℕ) → first ts ≡ some n → first (ts ++ us) ≡ some n
-unfolding first
-first-left [] us n e = absurd (let z : _≡_ {A = ℕ} 0 1 = cc in omega arith)
-first-left (when true m ∷ ts) us n e = e
-first-left (when false m ∷ ts) us n e = first-left ts us n e
-
-pub first-right : (ts us : List Test) → Passed ts → first (ts ++ us) ≡ first us
-unfolding first
-first-right [] us p = refl
-first-right (when b m ∷ ts) us p = rw (p .0) (first-right ts us (p .1))
-
--- ---- a pool opened for reading
-
-module _ (p : List ℕ) where
-  pub quiet-room : (s : Shape) → opened p ≡ Opening.Good s → 4608 ≤ length p
-  quiet-room s e = let g = open-good p s e in let b = size-bounds s (g .1) in omega (arith, g .0, b)
-
-  pub quiet-refused : (n : ℕ) → opened p ≡ Opening.Refused n → Opening.Refused n ≡ answer (first (readTests p)) (shapeIn p)
-  unfolding readTests answer
-  quiet-refused n e = rw (first-left (openTests p) (sealTest p ∷ []) n (open-refused p n e))
-
-  pub quiet-sealed : (s : Shape) (x : Bool) → opened p ≡ Opening.Good s → x ≡ unsealed (shapeOf s) p → x ≡ false
-      → Opening.Refused 21 ≡ answer (first (readTests p)) (shapeIn p)
-  unfolding readTests answer first
-  quiet-sealed s x e u f =
-      rw (first-right (openTests p) (sealTest p ∷ []) (open-passed p s e), ← (open-good p s e .2), ← u, f)
-
-  pub quiet-good : (s : Shape) (x : Bool) → opened p ≡ Opening.Good s → x ≡ unsealed (shapeOf s) p → x ≡ true
-      → Opening.Good s ≡ answer (first (readTests p)) (shapeIn p)
-  unfolding readTests answer first
-  quiet-good s x e u t =
-      rw (first-right (openTests p) (sealTest p ∷ []) (open-passed p s e), ← (open-good p s e .2), ← u, t)
-
--- ---- the object at an address of such a pool
+-- ---- the object at an address of a pool opened for reading
 
 module _ (p : List ℕ) where
   module _ {s : Shape} (e : answer (first (readTests p)) (shapeIn p) ≡ Opening.Good s) where
-    pub read-none : first (readTests p) ≡ none
-    read-none = answer-good (first (readTests p)) (shapeIn p) s e .0
-
-    pub read-opened : opened p ≡ Opening.Good s
-    unfolding readTests
-    read-opened =
-        passed-open p (passed-left (openTests p) (sealTest p ∷ []) (first-passed (readTests p) read-none))
-        ∙ ap Opening.Good (answer-good (first (readTests p)) (shapeIn p) s e .1)
-
-    pub read-shaped : Shaped p (shapeOf s)
-    read-shaped = let g = open-good p s read-opened in record { range = g .1; size = g .0 }
-
     pub look-found : (x : Look) (a : ℕ) → x ≡ lookIn (shapeOf s) p a → x ≡ look p a
     unfolding look lookTests lookIn
     look-found x a h =
-        rw (first-right (readTests p) (objectTests (shapeIn p) p a) (first-passed (readTests p) read-none)) (rw (open-good p s read-opened .2) at h)
+        rw (first-right (readTests p) (objectTests (shapeIn p) p a) (first-passed (readTests p) (read-none p e))) (rw (open-good p s (read-opened p e) .2) at h)
 
   pub look-refused : (n a : ℕ) → answer (first (readTests p)) (shapeIn p) ≡ Opening.Refused n → refused n ≡ look p a
   unfolding look lookTests concludeLook

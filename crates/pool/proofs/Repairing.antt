@@ -11,7 +11,7 @@ use Rattle.rules.specs.Header.{shapeIn}
 use Rattle.rules.specs.Seals.{readTests}
 use Rattle.rules.specs.Answer.{concludePool}
 use Rattle.rules.specs.Repair.{anyAbove, anyTwo, repair, repairTests, repaired}
-use Rattle.rules.proofs.Test.{Passed, first-passed}
+use Rattle.rules.proofs.Test.{Passed, first-left, first-passed, first-right}
 use Rattle.rules.proofs.Header.{range-ranged}
 use Rattle.layout.specs.declared.Shape.{Shape}
 use Rattle.layout.specs.declared.Opened.the-variants as Opening
@@ -19,7 +19,7 @@ use Rattle.layout.specs.Reading.{answer, shapeOf}
 use Rattle.layout.proofs.Opening.{answer-refused, open-good}
 use Rattle.pool.specs.declared.Outcome.the-variants.{Done, Refused}
 use Rattle.pool.specs.Reading.{changed}
-use Rattle.pool.proofs.Looking.{first-left, first-right, read-none, read-opened, read-shaped}
+use Rattle.opening.proofs.Reading.{read-none, read-opened, read-shaped}
 
 module _ (p : List ℕ) where
   pub columns-small : {s : Shape} → answer (first (readTests p)) (shapeIn p) ≡ Opening.Good s → s .zones * s .cols ≤ 16 * 64

@@ -3,8 +3,11 @@ use Prim.Native.Nat.{ℕ}
 use mathlib.Core.List.{List}
 use Rattle.rules.specs.Answer.{Answer, Changed, refused, taken}
 use Rattle.rules.specs.Look as Looking
+use Rattle.rules.specs.Scrub as Scrubbing
 use Rattle.pool.specs.declared.Outcome.{Outcome}
 use Rattle.pool.specs.declared.Outcome.the-variants.{Done, Refused}
+use Rattle.pool.specs.declared.Scrubbed.{Scrubbed}
+use Rattle.pool.specs.declared.Scrubbed.the-variants as Scanned
 
 -- A call on the pool alone: carried out, or refused with 01's number.
 abbrev pub answerOf : Outcome → Answer
@@ -19,3 +22,8 @@ changed r pool = record { answer = answerOf r; pool = pool }
 unfoldable pub refusalOf : Looking.Look → ℕ
 refusalOf (Looking.part at n) = 0
 refusalOf (Looking.refused n) = n
+
+-- Scrub's four counts, or its refusal.
+abbrev pub scrubOf : Scrubbed → Scrubbing.Scrub
+scrubOf (Scanned.Counts o d b c) = Scrubbing.counts o d b c
+scrubOf (Scanned.Refused n) = Scrubbing.refused n

@@ -4,17 +4,15 @@ ghost use mathlib.Core.Path.{_≡_};
 ghost use Prim.Native.Nat.{ℕ, _+_, _*_, _≤_};
 ghost use lib.ListN.{length};
 ghost use Rattle.rules.specs.Shape.{pageSize, poolSize};
-ghost use Rattle.rules.specs.Header.{shapeIn};
-ghost use Rattle.rules.specs.Test.{first};
-ghost use Rattle.rules.specs.Seals.{readTests};
 ghost use Rattle.rules.specs.Format.{formatted, freshPool};
 ghost use Rattle.rules.specs.Mend.{mended, mendHeader};
 ghost use Rattle.rules.specs.Repair.{repair as repaired};
 ghost use Rattle.rules.specs.Look.{look as looked, part, seen};
-ghost use Rattle.layout.specs.Reading.{answer, InRange, shapeOf};
+ghost use Rattle.rules.specs.Scrub.{scrub as scrubbed};
+ghost use Rattle.layout.specs.Reading.{InRange, shapeOf};
 ghost use Rattle.reading.specs.Reading.{lookOf, Within};
 ghost use Rattle.pool.specs.Fill.{headsFrom};
-ghost use Rattle.pool.specs.Reading.{changed, refusalOf};
+ghost use Rattle.pool.specs.Reading.{changed, refusalOf, scrubOf};
 use layout::Made;
 use layout::Opened;
 use layout::Shape;
@@ -23,6 +21,12 @@ use reading::Body;
 // What a call on the pool alone answers.
 pub enum Outcome {
     Done,
+    Refused(u8),
+}
+
+// What scrub answers: objects met, damaged ones, broken zones, columns with wrong parity; or a refusal's number.
+pub enum Scrubbed {
+    Counts(usize, usize, usize, usize),
     Refused(u8),
 }
 
@@ -99,26 +103,11 @@ fn copy_header(pool: &mut [u8])
     pages::copy(pool, 256, 0, 256);
 }
 
-// The pool's shape, or the first of refusals 2, 3, 4, 2, 21.
-fn open_quiet(pool: &[u8]) -> Opened
-    ensures { λ r. ⌜ r ≡ answer (first (readTests (now (pool .entry)))) (shapeIn (now (pool .entry))) ⌝ }
-{
-    match layout::open(pool) {
-        Opened::Refused(n) => Opened::Refused(n),
-        Opened::Good(s) => {
-            if log::seals_zero(s, pool) {
-                return Opened::Good(s);
-            }
-            Opened::Refused(21)
-        }
-    }
-}
-
 // Rebuilds the lost pages: `lost` has one mask a column, zone by zone; bit r means row r, bit R the parity row.
 pub fn repair(pool: &mut [u8], lost: &[u16]) -> Outcome
     ensures { λ r. ⌜ changed r (now (pool .exit)) ≡ repaired (now (pool .entry)) (now (lost .entry)) ⌝ }
 {
-    match open_quiet(pool) {
+    match opening::quiet(pool) {
         Opened::Refused(n) => Outcome::Refused(n),
         Opened::Good(s) => {
             if lost.len() != s.zones * s.cols {
@@ -140,7 +129,7 @@ pub fn repair(pool: &mut [u8], lost: &[u16]) -> Outcome
 fn look_for(pool: &[u8], address: usize) -> Body
     ensures { λ r. ⌜ (lookOf r ≡ looked (now (pool .entry)) address) × Within (now (pool .entry)) r ⌝ }
 {
-    match open_quiet(pool) {
+    match opening::quiet(pool) {
         Opened::Refused(n) => Body::Refused(n),
         Opened::Good(s) => reading::body_at(pool, s, address),
     }
@@ -163,5 +152,18 @@ pub fn look(pool: &[u8], address: usize) -> &[u8]
     match look_for(pool, address) {
         Body::Refused(_) => &pool[0..0],
         Body::At(at, n) => &pool[at..at + n],
+    }
+}
+
+// Scans the pool: its four counts, or the first of refusals 2, 3, 4, 2, 21.
+pub fn scrub(pool: &[u8]) -> Scrubbed
+    ensures { λ r. ⌜ scrubOf r ≡ scrubbed (now (pool .entry)) ⌝ }
+{
+    match opening::quiet(pool) {
+        Opened::Refused(n) => Scrubbed::Refused(n),
+        Opened::Good(s) => {
+            let c = scrub::count_pool(pool, s);
+            Scrubbed::Counts(c.objects, c.damaged, c.broken, c.columns)
+        }
     }
 }

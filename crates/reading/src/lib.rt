@@ -1,7 +1,6 @@
 // The part of the pool that holds the body of the object at a cell address (01, "Transactions": look).
 ghost use mathlib.Core.Path.{_≡_};
-ghost use Rattle.layout.specs.Reading.{shapeOf};
-ghost use Rattle.zones.specs.Found.{Shaped};
+ghost use Rattle.layout.specs.Reading.{shapeOf, Shaped};
 ghost use Rattle.reading.specs.Reading.{lookIn, lookOf, Within};
 use layout::Shape;
 use objects::Named;
@@ -19,11 +18,6 @@ pub fn body_at(pool: &[u8], s: Shape, a: usize) -> Body
 {
     match zones::object_at(pool, &pool[0..0], 0, s, a) {
         Named::Refused(n) => Body::Refused(n),
-        Named::Object(_, m, _) => {
-            let cells = zones::zone_cells(s);
-            let place = zones::zone(s, a / cells);
-            let from = place.from;
-            Body::At(from + 64 * (a % cells) + 16, m)
-        }
+        Named::Object(_, m, _) => Body::At(zones::head_at(s, a) + 16, m),
     }
 }

@@ -15,12 +15,12 @@ zero-requires c κs = search needs
 put-header-requires : tie.Need-put-header-requires
 put-header-requires c κs =
     let s = c .before .before .before .before .before .before in
-    header-fits (s .args .s) (s .pre .0) _ 0 (search needs) (omega arith)
+    header-fits (s .args .s) (s .pre .0) _ _ (search needs) (omega arith)
 
 put-header-requires-2 : tie.Need-put-header-requires-2
 put-header-requires-2 c κs =
     let s = c .before .before .before .before .before .before .before .before .before .before in
-    header-fits (s .args .s) (s .pre .0) _ 256 (search needs) (omega arith)
+    header-fits (s .args .s) (s .pre .0) _ _ (search needs) (omega arith)
 
 fill-zones-requires : tie.Need-fill-zones-requires
 fill-zones-requires c κs = search needs

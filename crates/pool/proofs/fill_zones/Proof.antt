@@ -8,11 +8,6 @@ use Rattle.layout.proofs.Range.{shape-good}
 use Rattle.pool.proofs.Fresh.{Filling, filling-end, filling-start, filling-step, zone-room}
 use Rattle.pool.proofs.fill_zones.Statement.{statement}
 use Rattle.pool.proofs.fill_zones.Tie as tie
-use Rattle.pool.proofs.fill_zones.Reads as reads
-use Rattle.pool.proofs.fill_zones.Lts as lts
-use Rattle.layout.proofs.Shape.cells.Reads as cells-reads
-use Rattle.layout.proofs.Shape.zone_at.Reads as zone-at-reads
-use Rattle.pages.proofs.put_free_head.Reads as put-free-head-reads
 
 abbrev Inv-loop : tie.InvT-loop
 Inv-loop pool₀ s zones cells z₀ pool z = Filling (shapeOf s) pool₀ pool z

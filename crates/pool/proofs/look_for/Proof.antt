@@ -1,13 +1,14 @@
 -- `pool::look_for` meets its contract. Assumes nothing.
 use mathlib.Core.Path.{sym, _∙_}
 use Rattle.reading.specs.Reading.{lookOf}
-use Rattle.pool.proofs.Looking.{look-found, look-refused, read-shaped}
+use Rattle.pool.proofs.Looking.{look-found, look-refused}
+use Rattle.opening.proofs.Reading.{read-shaped}
 use borrow.Author.Needs.{needs}
 use Rattle.pool.proofs.look_for.Statement.{statement}
 use Rattle.pool.proofs.look_for.Tie as tie
 
-open-quiet-requires : tie.Need-open-quiet-requires
-open-quiet-requires c κs = search needs
+quiet-requires : tie.Need-quiet-requires
+quiet-requires c κs = search needs
 
 enum-known-n : tie.Need-enum-known-n
 enum-known-n c = search needs
@@ -16,15 +17,15 @@ enum-known-s : tie.Need-enum-known-s
 enum-known-s c = search needs
 
 body-at-requires : tie.Need-body-at-requires
-body-at-requires c κs = read-shaped _ (sym (c .before .before .before .open-quiet .ensures) ∙ c .before .s .given .1)
+body-at-requires c κs = read-shaped _ (sym (c .before .before .before .quiet .ensures) ∙ c .before .s .given .1)
 
 returns : tie.Need-returns
-returns c = (look-refused _ _ _ (sym (c .before .before .before .open-quiet .ensures) ∙ c .before .n .given .1), tt)
+returns c = (look-refused _ _ _ (sym (c .before .before .before .quiet .ensures) ∙ c .before .n .given .1), tt)
 
 returns-2 : tie.Need-returns-2
-returns-2 c = (look-found _ (sym (c .before .before .before .before .open-quiet .ensures) ∙ c .before .before .s .given .1) (lookOf (c .body-at .result)) _ (c .body-at .ensures .0), c .body-at .ensures .1)
+returns-2 c = (look-found _ (sym (c .before .before .before .before .quiet .ensures) ∙ c .before .before .s .given .1) (lookOf (c .body-at .result)) _ (c .body-at .ensures .0), c .body-at .ensures .1)
 
 pub look-for-spec : {M : Type 1} → statement M
 look-for-spec =
     tie.close
-    (tie.spec open-quiet-requires enum-known-n enum-known-s body-at-requires returns returns-2)
+    (tie.spec quiet-requires enum-known-n enum-known-s body-at-requires returns returns-2)

@@ -1,6 +1,6 @@
 -- `reading::body_at` meets its contract. Assumes nothing.
-use Rattle.zones.proofs.Shaped.{cells-some}
-use Rattle.reading.proofs.BodyAt.{body-found, body-low, body-refused, body-within, body-zone, staged-none}
+use Rattle.zones.proofs.Shaped.{staged-none}
+use Rattle.reading.proofs.BodyAt.{body-below, body-found, body-low, body-refused, body-within}
 use native.Mathlib.Omega.{arith}
 use borrow.Author.Needs.{needs}
 use Rattle.reading.proofs.body_at.Statement.{statement}
@@ -24,47 +24,17 @@ enum-known-n c = search needs
 enum-known-m : tie.Need-enum-known-m
 enum-known-m c = search needs
 
-zone-cells-requires : tie.Need-zone-cells-requires
-zone-cells-requires c κs = c .before .before .before .before .before .before .pre .range
+head-at-requires : tie.Need-head-at-requires
+head-at-requires c κs = let s = c .before .before .before .before .before .before in let f = c .before .before .before .object-at in (s .pre .range, body-below (s .args .s) (s .pre) _ _ (f .result) (f .ensures) (c .before .m .given .1))
 
-div-zone : tie.Need-div-zone
-div-zone c = let s = c .before .before .before .before .before .before .before in omega (arith, cells-some (s .args .s) (s .pre .range), c .zone-cells .ensures)
-
-zone-requires : tie.Need-zone-requires
-zone-requires c κs =
-    let s = c .before .before .before .before .before .before .before in
-    let f = c .before .before .before .before .object-at in
-    (s .pre .range, body-zone (s .args .s) (s .pre) _ _ (f .result) (f .ensures) (c .before .before .m .given .1) (c .zone-cells .ensures))
-
-rem-t15 : tie.Need-rem-t15
-rem-t15 c = let s = c .before .before .before .before .before .before .before .before in omega (arith, cells-some (s .args .s) (s .pre .range), c .before .zone-cells .ensures)
-
-mul-t16 : tie.Need-mul-t16
-mul-t16 c =
-    let s = c .before .before .before .before .before .before .before .before in
-    let f = c .before .before .before .before .before .object-at in
-    omega (arith, body-low (s .args .s) (s .pre) _ _ (f .result) (f .ensures) (c .before .before .before .m .given .1) (c .before .zone-cells .ensures) (c .zone .ensures))
-
-add-t17 : tie.Need-add-t17
-add-t17 c =
-    let s = c .before .before .before .before .before .before .before .before in
-    let f = c .before .before .before .before .before .object-at in
-    omega (arith, body-low (s .args .s) (s .pre) _ _ (f .result) (f .ensures) (c .before .before .before .m .given .1) (c .before .zone-cells .ensures) (c .zone .ensures))
-
-add-t18 : tie.Need-add-t18
-add-t18 c =
-    let s = c .before .before .before .before .before .before .before .before in
-    let f = c .before .before .before .before .before .object-at in
-    omega (arith, body-low (s .args .s) (s .pre) _ _ (f .result) (f .ensures) (c .before .before .before .m .given .1) (c .before .zone-cells .ensures) (c .zone .ensures))
+add-t13 : tie.Need-add-t13
+add-t13 c = let s = c .before .before .before .before .before .before .before in let f = c .before .before .before .before .object-at in omega (arith, body-low (s .args .s) (s .pre) _ _ (f .result) (f .ensures) (c .before .before .m .given .1) (c .head-at .ensures))
 
 returns : tie.Need-returns
-returns c = (body-refused (c .before .before .before .before .before .before .args .s) (c .before .before .before .before .before .before .pre) _ _ (c .before .before .before .object-at .result) (c .before .before .before .object-at .ensures) (c .before .n .given .1), tt)
+returns c = let s = c .before .before .before .before .before .before in let f = c .before .before .before .object-at in (body-refused (s .args .s) (s .pre) _ _ (f .result) (f .ensures) (c .before .n .given .1), tt)
 
 returns-2 : tie.Need-returns-2
-returns-2 c =
-    let s = c .before .before .before .before .before .before .before .before in
-    let f = c .before .before .before .before .before .object-at in
-    (body-found (s .args .s) (s .pre) _ _ (f .result) (f .ensures) (c .before .before .before .m .given .1) (c .before .zone-cells .ensures) (c .zone .ensures), body-within (s .args .s) (s .pre) _ _ (f .result) (f .ensures) (c .before .before .before .m .given .1) (c .before .zone-cells .ensures) (c .zone .ensures))
+returns-2 c = let s = c .before .before .before .before .before .before .before in let f = c .before .before .before .before .object-at in let q = c .before .before .m .given .1 in (body-found (s .args .s) (s .pre) _ _ (f .result) (f .ensures) q (c .head-at .ensures), body-within (s .args .s) (s .pre) _ _ (f .result) (f .ensures) q (c .head-at .ensures))
 
 pub body-at-spec : {M : Type 1} → statement M
 body-at-spec =
@@ -76,12 +46,7 @@ body-at-spec =
     object-at-requires
     enum-known-n
     enum-known-m
-    zone-cells-requires
-    div-zone
-    zone-requires
-    rem-t15
-    mul-t16
-    add-t17
-    add-t18
+    head-at-requires
+    add-t13
     returns
     returns-2)

@@ -1,9 +1,9 @@
--- `pool::open_quiet` meets its contract. Assumes nothing.
+-- `opening::quiet` meets its contract. Assumes nothing.
 use mathlib.Core.Path.{sym, _∙_}
-use Rattle.pool.proofs.Looking.{quiet-good, quiet-refused, quiet-room, quiet-sealed}
+use Rattle.opening.proofs.Reading.{quiet-good, quiet-refused, quiet-room, quiet-sealed}
 use borrow.Author.Needs.{needs}
-use Rattle.pool.proofs.open_quiet.Statement.{statement}
-use Rattle.pool.proofs.open_quiet.Tie as tie
+use Rattle.opening.proofs.quiet.Statement.{statement}
+use Rattle.opening.proofs.quiet.Tie as tie
 
 open-requires : tie.Need-open-requires
 open-requires c κs = search needs
@@ -26,8 +26,8 @@ returns-2 c = quiet-refused _ _ (sym (c .before .before .before .«open» .ensur
 returns-3 : tie.Need-returns-3
 returns-3 c = quiet-sealed _ _ _ (sym (c .before .before .before .before .before .«open» .ensures) ∙ c .before .before .before .s .given .1) (c .before .seals-zero .ensures) (c .if1 .left)
 
-pub open-quiet-spec : {M : Type 1} → statement M
-open-quiet-spec =
+pub quiet-spec : {M : Type 1} → statement M
+quiet-spec =
     tie.close
     (tie.spec
     open-requires

@@ -1,0 +1,59 @@
+-- `scrub::damaged_at` meets its contract. Assumes nothing.
+use Rattle.scrub.proofs.Counting.{body-room, free-at, object-at, object-room}
+use borrow.Author.Needs.{needs}
+use native.Mathlib.Omega.{arith}
+use Rattle.scrub.proofs.damaged_at.Statement.{statement}
+use Rattle.scrub.proofs.damaged_at.Tie as tie
+
+returns : tie.Need-returns
+returns c = free-at _ _ (c .if1 .taken)
+
+sub-read-head : tie.Need-sub-read-head
+sub-read-head c = search needs
+
+part-read-head-start : tie.Need-part-read-head-start
+part-read-head-start c = search needs
+
+part-read-head-end : tie.Need-part-read-head-end
+part-read-head-end c = search needs
+
+read-head-requires : tie.Need-read-head-requires
+read-head-requires c κs = let s = c .before .before .before in (s .pre .0, s .pre .1, omega (arith, object-room (s .pre .2 (c .before .if1 .left))))
+
+sub-intact : tie.Need-sub-intact
+sub-intact c = search needs
+
+part-intact-start : tie.Need-part-intact-start
+part-intact-start c = search needs
+
+part-intact-end : tie.Need-part-intact-end
+part-intact-end c = search needs
+
+body-requires : tie.Need-body-requires
+body-requires c κs = search needs
+
+intact-requires : tie.Need-intact-requires
+intact-requires c κs =
+    let s = c .before .before .before .before .before .before in
+    (s .pre .0, s .pre .1, body-room (s .args .pool .now) _ (s .args .at) (s .pre .2 (c .before .before .before .before .if1 .left)) (c .before .before .read-head .ensures) (c .body .ensures .0))
+
+returns-2 : tie.Need-returns-2
+returns-2 c =
+    let s = c .before .before .before .before .before .before .before in
+    object-at (s .args .pool .now) _ (s .args .at) (c .before .before .before .before .before .if1 .left) (c .before .before .before .read-head .ensures) (c .before .body .ensures .0) (c .intact .ensures)
+
+pub damaged-at-spec : {M : Type 1} → statement M
+damaged-at-spec =
+    tie.close
+    (tie.spec
+    returns
+    sub-read-head
+    part-read-head-start
+    part-read-head-end
+    read-head-requires
+    sub-intact
+    part-intact-start
+    part-intact-end
+    body-requires
+    intact-requires
+    returns-2)

@@ -1,0 +1,99 @@
+-- The lines of a zone, run by run. Assumes nothing.
+use Prim.Native.Nat.{ℕ, _+_, _*_, _≤_, _<_}
+use mathlib.Core.Path.{_≡_, refl, sym, ap, _∙_}
+use mathlib.Core.Bool.{Bool, true, false}
+use mathlib.Core.List.{List, [], _++_, append-nil}
+use native.Mathlib.Omega.{arith}
+use lib.ListN.{length, length-drop}
+use lib.Seq.{length-take-le}
+use lib.Dec.{eqb}
+use Rattle.rules.specs.Check.{check}
+use Rattle.rules.specs.Runs.{Run, cells, covered, free, headCells, headCheck, headLength, headTag, isFree, object}
+use Rattle.rules.specs.Scan.{brokenLine, runLine, zoneLines}
+use Rattle.stage.specs.View.{part, seen}
+use Rattle.stage.proofs.View.{seen-none}
+use Rattle.runs.specs.Rest.{Meets, Passed, Zoned, restOf, walkOn}
+use Rattle.runs.proofs.Rest.{walk-broken, walk-end, walk-start}
+use Rattle.objects.specs.Named.{objectRun}
+use Rattle.objects.proofs.Naming.{passed-object}
+use Rattle.scrub.specs.Counted.{ObjectThere}
+use Rattle.scrub.proofs.Counting.{body-room}
+use Rattle.print.specs.Put.{Put}
+use Rattle.print.proofs.Put.{Putting, put-as, putting-end, putting-start, putting-step}
+use Rattle.scan.specs.Lined.{Lined, objectLine, zoneText}
+use Rattle.scan.proofs.Lines.{object-line}
+
+-- ---- an object's line, by its head at byte a
+
+pub judged-line : (p st : List ℕ) (a : ℕ) {h : List ℕ} {m : ℕ} → ObjectThere p a → h ≡ part 16 a (seen p st 0) → m ≡ headLength h → (z c : ℕ) {t : ℕ} {x : Bool}
+    → x ≡ eqb (headCheck h) (check (covered h (part m (a + 16) (seen p st 0)))) → t ≡ headTag h → objectLine z c t m x ≡ runLine z c (objectRun p a (part 16 a p))
+unfolding objectRun part
+judged-line p st a {h} {m} o e k z c {t} {x} q i =
+    let l : length (part m (a + 16) p) ≡ m = length-take-le m _ (rw length-drop (omega (arith, body-room p st a o e k))) in
+    ap (λ (n : ℕ). objectLine z c t n x) (sym l) ∙ object-line z c (headCells h) t (part m (a + 16) p) x ∙ rw (q, i, k, e, seen-none p st)
+
+-- ---- the line of a run that was met
+
+free-run : (r : Run) (m : ℕ) → isFree r ≡ true → cells r ≡ m → free m ≡ r
+free-run (free n) m e k = ap free (sym k)
+free-run (object n t b g) m e k = absurd (let z : _≡_ {A = ℕ} 0 1 = cc in omega arith)
+
+module _ {p : List ℕ} {from n c : ℕ} {after : Bool} {m : ℕ} {f : Bool} {z : ℕ} {l : List ℕ} {a : ℕ} {l′ : List ℕ} {r : ℕ} where
+  pub lined-broken : (st : List ℕ) → Zoned p from n → c < n → Meets (seen p st 0) from n c after m f → m ≡ 0 → (x : Bool) → Put 64 l a (brokenLine z c) l′ r → Lined p from n z c after l a l′ r 0 x
+  lined-broken st y b e k x q =
+      let w = walk-broken y b (rw (seen-none p st) at e) k in
+      record { broken = λ _. record { walk = w; line = q }; run = λ i. absurd (i refl) }
+
+  lined-run : (d : Passed p from n c after m f) (t : Run) → t ≡ d .that → Put 64 l a (runLine z c t) l′ r → Lined p from n z c after l a l′ r m f
+  lined-run d t e q =
+      record {
+        broken = λ i. absurd (omega (arith, d .some));
+        run = λ _. record { passed = d; line = put-as q (ap (runLine z c) e) (omega arith) };
+      }
+
+  pub lined-free : Passed p from n c after m f → f ≡ true → Put 64 l a (runLine z c (free m)) l′ r → Lined p from n z c after l a l′ r m f
+  lined-free d g q = lined-run d (free m) (free-run (d .that) m (d .free-is ∙ g) (d .cells-is)) q
+
+  pub lined-object : Passed p from n c after m f → f ≡ false → Put 64 l a (runLine z c (objectRun p (from + 64 * c) (part 16 (from + 64 * c) p))) l′ r → Lined p from n z c after l a l′ r m f
+  lined-object d g q = lined-run d (objectRun p (from + 64 * c) (part 16 (from + 64 * c) p)) (sym (passed-object d g refl .is)) q
+
+-- ---- a zone's lines
+
+-- those from cell c on
+unfoldable pub restText : List ℕ → ℕ → ℕ → ℕ → ℕ → Bool → List ℕ
+restText v from n z c after = zoneLines z c (walkOn after (restOf v from n c) .runs) (walkOn after (restOf v from n c) .whole)
+
+pub record Listing (v : List ℕ) (from n z : ℕ) (l : List ℕ) (a : ℕ) (l′ : List ℕ) (r c : ℕ) (after : Bool) : Type 0 where
+  pub within : c ≤ n
+  pub most : r ≤ a + 64 * c
+  pub putting : Putting l a (zoneText v from n z) l′ r (restText v from n z c after)
+
+pub listing-start : (v : List ℕ) (from n z : ℕ) (l : List ℕ) (a : ℕ) → Listing v from n z l a l a 0 false
+unfolding zoneText restText
+listing-start v from n z l a = record { within = omega arith; most = omega arith; putting = rw (walk-start v from n) (putting-start l a (zoneText v from n z)) }
+
+module _ {v : List ℕ} {from n z : ℕ} {l : List ℕ} {a : ℕ} {l′ : List ℕ} {r c : ℕ} {after : Bool} (s : Listing v from n z l a l′ r c after) where
+  pub listing-step : {l″ : List ℕ} {r′ m : ℕ} {f : Bool} → Lined v from n z c after l′ r l″ r′ m f → (m ≡ 0 → ⊥) → Listing v from n z l a l″ r′ (c + m) f
+  unfolding restText zoneLines
+  listing-step {m = m} {f} q k =
+      let u = q .run k in
+      let d = u .passed in
+      let e : restText v from n z c after ≡ runLine z c (d .that) ++ restText v from n z (c + m) f = rw (d .runs, d .whole, ← (d .cells-is)) in
+      record {
+        within = d .within;
+        most = omega (arith, s .most, u .line .most, d .some);
+        putting = putting-step (rw e at (s .putting)) (u .line);
+      }
+
+  pub listing-broken : {l″ : List ℕ} {r′ m : ℕ} {f : Bool} → Lined v from n z c after l′ r l″ r′ m f → m ≡ 0 → c < n → Put (64 * n) l a (zoneText v from n z) l″ r′
+  unfolding restText zoneLines
+  listing-broken q k h =
+      let u = q .broken k in
+      let e : restText v from n z c after ≡ brokenLine z c ++ [] = rw (u .walk) (sym (append-nil (brokenLine z c))) in
+      putting-end (putting-step (rw e at (s .putting)) (u .line)) (omega (arith, s .most, u .line .most))
+
+  pub listing-end : Zoned v from n → n ≤ c → Put (64 * n) l a (zoneText v from n z) l′ r
+  unfolding restText zoneLines
+  listing-end y h =
+      let e : restText v from n z c after ≡ [] = rw (walk-end c after y h) in
+      putting-end (rw e at (s .putting)) (omega (arith, s .most, s .within))

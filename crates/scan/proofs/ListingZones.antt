@@ -1,0 +1,70 @@
+-- The lines of the pool, zone by zone, and their number. Assumes nothing.
+use Prim.Native.Nat.{ℕ, suc, _+_, _-_, _*_, _≤_, _<_}
+use mathlib.Core.Path.{_≡_, ap, _∙_}
+use mathlib.Core.List.{List, _++_}
+use native.Mathlib.Nat.{le-refl, mul-assoc, mul-le-mul, mul-le-mul-right, sub-zero, suc-mul}
+use native.Mathlib.Numerals.{add-one}
+use native.Mathlib.Omega.{arith}
+use lib.ListN.{length}
+use Rattle.rules.specs.Shape.{Shape as PoolShape, poolSize, zoneCells}
+use Rattle.rules.specs.Scan.{zonesText}
+use Rattle.layout.specs.declared.Shape.{Shape}
+use Rattle.layout.specs.Reading.{Shaped, shapeOf}
+use Rattle.layout.proofs.Range.{shape-good}
+use Rattle.zones.specs.Found.{ZoneIs}
+use Rattle.zones.proofs.Searching.{walk-in}
+use Rattle.zones.proofs.Shaped.{address-bound}
+use Rattle.print.specs.Put.{Put}
+use Rattle.print.proofs.Put.{Putting, putting-end, putting-start, putting-step}
+use Rattle.scan.specs.Lined.{zoneText}
+
+pub record ListingZones (s : PoolShape) (v l : List ℕ) (a : ℕ) (l′ : List ℕ) (r z : ℕ) : Type 0 where
+  pub within : z ≤ s .zones
+  pub most : r ≤ a + 64 * (z * zoneCells s)
+  pub putting : Putting l a (zonesText s v 0 (s .zones)) l′ r (zonesText s v z (s .zones - z))
+
+pub zones-start : (s : PoolShape) (v l : List ℕ) (a : ℕ) → ListingZones s v l a l a 0
+zones-start s v l a = record { within = omega arith; most = omega arith; putting = rw (sub-zero (s .zones)) (putting-start l a (zonesText s v 0 (s .zones))) }
+
+module _ {s : PoolShape} {v l : List ℕ} {a : ℕ} {l′ : List ℕ} {r z : ℕ} (i : ListingZones s v l a l′ r z) where
+  pub zones-step : z < s .zones → {from n : ℕ} → ZoneIs s z from n → {l″ : List ℕ} {r′ : ℕ} → Put (64 * n) l′ r (zoneText v from n z) l″ r′ → ListingZones s v l a l″ r′ (z + 1)
+  unfolding zonesText zoneText
+  zones-step h {from} {n} e q =
+      let d : s .zones - z ≡ suc (s .zones - suc z) = omega arith in
+      let t : zonesText s v z (s .zones - z) ≡ zoneText v from n z ++ zonesText s v (suc z) (s .zones - suc z) = rw (d, walk-in v e) in
+      let m : (z + 1) * zoneCells s ≡ z * zoneCells s + zoneCells s = ap (λ (x : ℕ). x * zoneCells s) (add-one z) ∙ suc-mul z (zoneCells s) in
+      record {
+        within = omega arith;
+        most = omega (arith, i .most, q .most, m, e .cells-is);
+        putting = rw add-one (putting-step (rw t at (i .putting)) q);
+      }
+
+  pub zones-end : s .zones ≤ z → Put (64 * (s .zones * zoneCells s)) l a (zonesText s v 0 (s .zones)) l′ r
+  unfolding zonesText
+  zones-end h =
+      let e : z ≡ s .zones = omega (arith, i .within) in
+      let d : s .zones - z ≡ 0 = omega arith in
+      let q : z * zoneCells s ≡ s .zones * zoneCells s = ap (λ (x : ℕ). x * zoneCells s) e in
+      putting-end (rw d at (i .putting)) (omega (arith, i .most))
+
+-- ---- bounds
+
+module _ (s : Shape) {p : List ℕ} (g : Shaped p (shapeOf s)) where
+  pub zone-few : zoneCells (shapeOf s) < 65536
+  zone-few = shape-good s (g .range) .runs
+
+  pub place-small : {v l : List ℕ} {a : ℕ} {l′ : List ℕ} {r z : ℕ} → ListingZones (shapeOf s) v l a l′ r z → a ≤ 64 → r ≤ 64 + 64 * (16 * 65536)
+  place-small {z = z} i h =
+      let b = address-bound s (g .range) in
+      let c : z * zoneCells (shapeOf s) ≤ s .zones * zoneCells (shapeOf s) = mul-le-mul-right (zoneCells (shapeOf s)) (i .within) in
+      omega (arith, i .most)
+
+  -- a pool of at most 65,536 bytes has at most 952 cells
+  pub cells-few : length p ≤ 65536 → s .zones * zoneCells (shapeOf s) ≤ 952
+  unfolding poolSize zoneCells
+  cells-few h =
+      let a : s .rows ≤ s .rows + 1 = omega arith in
+      let b : s .zones * (s .rows * s .cols) ≤ s .zones * ((s .rows + 1) * s .cols) = mul-le-mul (le-refl (s .zones)) (mul-le-mul-right (s .cols) a) in
+      let c = mul-assoc (s .zones) (s .rows + 1) (s .cols) in
+      let d = mul-assoc (s .zones) (s .rows * s .cols) 4 in
+      omega (arith, g .size)

@@ -1,0 +1,31 @@
+-- `record::past` meets its contract. Assumes nothing.
+use Rattle.record.proofs.Judging.{past-closed, past-committing, past-open}
+use borrow.Author.Needs.{needs}
+use Rattle.record.proofs.past.Statement.{statement}
+use Rattle.record.proofs.past.Tie as tie
+
+enum-known-phase : tie.Need-enum-known-phase
+enum-known-phase c = search needs
+
+steps-requires : tie.Need-steps-requires
+steps-requires c κs = search needs
+
+enum-told : tie.Need-enum-told
+enum-told c = search needs
+
+enum-told-2 : tie.Need-enum-told-2
+enum-told-2 c = search needs
+
+returns : tie.Need-returns
+returns c = past-committing _ _ (c .before .before .phase .given .1) (c .steps .ensures)
+
+returns-2 : tie.Need-returns-2
+returns-2 c = past-open _ _ (c .enum-told .given .1)
+
+returns-3 : tie.Need-returns-3
+returns-3 c = past-closed _ _ (c .enum-told2 .given .1)
+
+pub past-spec : {M : Type 1} → statement M
+past-spec =
+    tie.close
+    (tie.spec enum-known-phase steps-requires enum-told enum-told-2 returns returns-2 returns-3)

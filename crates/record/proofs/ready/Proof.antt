@@ -1,0 +1,48 @@
+-- `record::ready` meets its contract. Assumes nothing.
+use Rattle.record.proofs.Judging.{ready-closed, ready-good, ready-refused, ready-sealed, seals-room}
+use mathlib.Core.Path.{sym, _∙_}
+use borrow.Author.Tests.{not-false, not-true}
+use borrow.Author.Needs.{needs}
+use Rattle.record.proofs.ready.Statement.{statement}
+use Rattle.record.proofs.ready.Tie as tie
+
+judge-requires : tie.Need-judge-requires
+judge-requires c κs = search needs
+
+enum-known-n : tie.Need-enum-known-n
+enum-known-n c = search needs
+
+enum-known-s : tie.Need-enum-known-s
+enum-known-s c = search needs
+
+live-requires : tie.Need-live-requires
+live-requires c κs = search needs
+
+returns : tie.Need-returns
+returns c = ready-closed _ _ _ (c .before .before .before .before .before .before .before .before .args .phase) (sym (c .before .before .before .before .before .judge .ensures) ∙ c .before .before .before .s .given .1) (c .before .live .ensures) (not-true (c .before .live .result) (c .if1 .taken))
+
+seals-zero-requires : tie.Need-seals-zero-requires
+seals-zero-requires c κs = seals-room _ _ _ (c .before .before .before .before .before .before .before .before .args .phase) (sym (c .before .before .before .before .before .judge .ensures) ∙ c .before .before .before .s .given .1)
+
+returns-2 : tie.Need-returns-2
+returns-2 c = ready-good _ _ _ (c .before .before .before .before .before .before .before .before .before .before .args .phase) (sym (c .before .before .before .before .before .before .before .judge .ensures) ∙ c .before .before .before .before .before .s .given .1) (c .before .before .before .live .ensures) (not-false (c .before .before .before .live .result) (c .before .before .if1 .left)) (c .before .seals-zero .ensures) (c .if2 .taken)
+
+returns-3 : tie.Need-returns-3
+returns-3 c = ready-refused _ _ _ (c .before .before .before .before .before .before .args .phase) (sym (c .before .before .before .judge .ensures) ∙ c .before .n .given .1)
+
+returns-4 : tie.Need-returns-4
+returns-4 c = ready-sealed _ _ _ (c .before .before .before .before .before .before .before .before .before .before .args .phase) (sym (c .before .before .before .before .before .before .before .judge .ensures) ∙ c .before .before .before .before .before .s .given .1) (c .before .before .before .live .ensures) (not-false (c .before .before .before .live .result) (c .before .before .if1 .left)) (c .before .seals-zero .ensures) (c .if2 .left)
+
+pub ready-spec : {M : Type 1} → statement M
+ready-spec =
+    tie.close
+    (tie.spec
+    judge-requires
+    enum-known-n
+    enum-known-s
+    live-requires
+    returns
+    seals-zero-requires
+    returns-2
+    returns-3
+    returns-4)

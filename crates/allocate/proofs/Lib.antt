@@ -1,0 +1,4 @@
+pub mod Body
+pub mod Rows
+pub mod Placed
+pub mod Fitting

@@ -1,0 +1,52 @@
+-- `allocate::touch_object` meets its contract. Assumes nothing.
+use Rattle.allocate.proofs.Placed.{cells-some, room-body, room-head, touched-object}
+use borrow.Author.Needs.{needs}
+use Rattle.allocate.proofs.touch_object.Statement.{statement}
+use Rattle.allocate.proofs.touch_object.Tie as tie
+
+object-head-requires : tie.Need-object-head-requires
+object-head-requires c κs = search needs
+
+cells-for-requires : tie.Need-cells-for-requires
+cells-for-requires c κs = search needs
+
+mul-words : tie.Need-mul-words
+mul-words c = search needs
+
+touch-head-requires : tie.Need-touch-head-requires
+touch-head-requires c κs =
+    let s = c .before .before .before .before .before in
+    (room-head _ (s .pre .0) (c .before .cells-for .ensures .0), search needs)
+
+add-touch-body : tie.Need-add-touch-body
+add-touch-body c = search needs
+
+sub-touch-body : tie.Need-sub-touch-body
+sub-touch-body c = let h = cells-some _ (c .before .before .before .before .before .cells-for .ensures .0) in search needs
+
+touch-body-requires : tie.Need-touch-body-requires
+touch-body-requires c κs =
+    let k = c .before .before .before .before .before in
+    (room-body _ (k .before .before .before .before .pre .0) (k .cells-for .ensures .0) (c .before .before .before .touch-head .ensures), search needs, search needs)
+
+same-length : tie.Need-same-length
+same-length c = search needs
+
+returns : tie.Need-returns
+returns c =
+    let h = c .before .before .before .before .before .before in
+    touched-object _ _ _ (h .before .before .before .object-head .ensures) (h .before .before .cells-for .ensures .0) (h .touch-head .ensures) (c .before .before .touch-body .ensures)
+
+pub touch-object-spec : {M : Type 1} → statement M
+touch-object-spec =
+    tie.close
+    (tie.spec
+    object-head-requires
+    cells-for-requires
+    mul-words
+    touch-head-requires
+    add-touch-body
+    sub-touch-body
+    touch-body-requires
+    same-length
+    returns)

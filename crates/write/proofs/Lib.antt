@@ -1,0 +1,4 @@
+pub mod Right
+pub mod CheckWord
+pub mod Words
+pub mod Planned

@@ -16,7 +16,9 @@ use Rattle.powercut.specs.Steps.{Step, barrier, clear, commitSteps, recoverySte
 use Rattle.powercut.specs.Commit.{madeAnswer}
 use Rattle.log.specs.Targets.{allFit, read}
 use Rattle.steps.specs.declared.Action.{Action}
-use Rattle.steps.specs.Actions.{Computed, Ready, actionOf, answerOf, applied, clearAction, commitAction, redoAction}
+use Rattle.steps.specs.declared.Action.the-variants.{Barrier, Store}
+use Rattle.steps.specs.Actions.{Computed, Ready, actionOf, answerOf, applied, clearAction, commitAction, redoAction, toldOf}
+use Rattle.answers.specs.Reading as Answers
 use Rattle.steps.proofs.Actions.{answer-step, applied-step}
 
 valid-targets : (sh : Shape) (p : List ℕ) (b : ℕ) → valid sh p b ≡ true → goodTargets sh (entriesAt p (b + logHead) (countIn (word p b))) ≡ true
@@ -60,3 +62,8 @@ module _ (sh : Shape) (p : List ℕ) where
     pub ready-log : (b n k : ℕ) → b + 2048 ≤ length p → n ≤ entryLimit → (k < 2 * n + 1 → (valid sh p b ≡ true) × (countIn (word p b) ≡ n)) → Ready sh p p (b + logHead) n k
     unfolding allFit read
     ready-log b n k l f h = record { whole = whole; few = f; held = omega arith; right = λ u. rw (← (h u .1)) (valid-targets sh p b (h u .0)) }
+
+-- the code's answer is the paper's
+pub told-answer : (k : ℕ) (a : Action) → Answers.answerOf (toldOf k a) ≡ answerOf k a
+told-answer k (Store at v) = refl
+told-answer k Barrier = refl

@@ -11,6 +11,8 @@ use Rattle.rules.specs.Parity.{parityWord}
 use Rattle.rules.specs.Answer.{Answer, passed, stored}
 use Rattle.powercut.specs.Steps.{Step, barrier, clear, commitSteps, parity, recoverySteps, redo, store}
 use Rattle.log.specs.Targets.{allFit, read}
+use Rattle.answers.specs.declared.Answer as Told
+use Rattle.answers.specs.declared.Answer.the-variants as Cases
 use Rattle.steps.specs.declared.Action.{Action}
 use Rattle.steps.specs.declared.Action.the-variants.{Barrier, Store}
 
@@ -32,6 +34,11 @@ applied Barrier p = p
 abbrev pub answerOf : ℕ → Action → Answer
 answerOf k (Store a v) = stored k
 answerOf k Barrier = passed k
+
+-- The same answer by the code.
+abbrev pub toldOf : ℕ → Action → Told.Answer
+toldOf k (Store a v) = Cases.Stored k
+toldOf k Barrier = Cases.Passed k
 
 -- The store lies inside n bytes.
 abbrev pub Inside : Action → ℕ → Type 0

@@ -1,0 +1,113 @@
+// Commit by steps (01, "Commit, cut, recovery"): what its start and each step answer, the phase then, and the step made.
+ghost use mathlib.Core.Path.{_≡_};
+ghost use mathlib.Core.Bool.{not, _&&_};
+ghost use Prim.Native.Nat.{_+_, _≤_, _<_};
+ghost use lib.ListN.{length};
+ghost use lib.Dec.{eqb};
+ghost use Rattle.rules.specs.Header.{shapeIn};
+ghost use Rattle.rules.specs.Test.{first};
+ghost use Rattle.rules.specs.Seals.{unsealed};
+ghost use Rattle.rules.specs.Staging.{commitLength};
+ghost use Rattle.rules.specs.Calls.{recordTests};
+ghost use Rattle.powercut.specs.Commit.{commitStep};
+ghost use Rattle.layout.specs.Reading.{answer, InRange, shapeOf};
+ghost use Rattle.layout.specs.declared.Opened.the-variants.{Good};
+ghost use Rattle.steps.specs.Actions.{Ready};
+ghost use Rattle.record.specs.Reading.{given};
+ghost use Rattle.commit.specs.Stepped.{afterOf, madeOf, startedWith, steppedTo};
+use answers::Answer;
+use layout::Shape;
+use record::Phase;
+use steps::Action;
+
+// What a start or a step answers, and the phase then.
+pub struct Stepped {
+    pub answer: Answer,
+    pub phase: Phase,
+}
+
+// The start of a commit of `n` entries: done at once where there are none.
+pub fn start(n: usize) -> Stepped
+    ensures { λ r. ⌜ r ≡ startedWith n ⌝ }
+{
+    if n == 0 {
+        return Stepped {
+            answer: Answer::Done(0),
+            phase: Phase::Closed,
+        };
+    }
+    Stepped {
+        answer: Answer::Started,
+        phase: Phase::Committing(0),
+    }
+}
+
+// Whether this is the first step and a seal is not zero.
+fn sealed(s: Shape, pool: &[u8], k: usize) -> bool
+    requires { ⌜ 4608 ≤ length (now pool) ⌝ }
+    ensures { λ r. ⌜ r ≡ (eqb k 0 && not (unsealed (shapeOf s) (now (pool .entry)))) ⌝ }
+{
+    if k == 0 {
+        return !log::seals_zero(s, pool);
+    }
+    false
+}
+
+// What step k of n, from 1, answers, and the phase then: done with the last.
+fn told(action: Action, k: usize, n: usize) -> Stepped
+    ensures { λ r. ⌜ r ≡ steppedTo action k n ⌝ }
+{
+    if k == n {
+        return Stepped {
+            answer: Answer::Done(n),
+            phase: Phase::Closed,
+        };
+    }
+    let phase = Phase::Committing(k);
+    match action {
+        Action::Store { at: _, val: _ } => Stepped {
+            answer: Answer::Stored(k),
+            phase,
+        },
+        Action::Barrier => Stepped {
+            answer: Answer::Passed(k),
+            phase,
+        },
+    }
+}
+
+// Makes step k + 1 of the commit of the `n` entries in `staging`.
+fn make(s: Shape, pool: &mut [u8], staging: &[u8], n: usize, k: usize) -> Stepped
+    requires { ⌜ InRange (shapeOf s) × Ready (shapeOf s) (now pool) (now staging) 0 n 0 × (k < commitLength n) ⌝ }
+    ensures { λ r. ⌜ afterOf r n (now (pool .exit)) (now (staging .entry)) ≡ madeOf (shapeOf s) (now (pool .entry)) (now (staging .entry)) n k ⌝ }
+{
+    let action = steps::commit_action(s, pool, staging, n, k);
+    steps::apply(pool, action);
+    told(action, k + 1, record::steps(n))
+}
+
+// Makes the next step of a commit whose record was judged, or the first of refusals 29, 21.
+pub fn step(s: Shape, pool: &mut [u8], staging: &[u8], count: usize, phase: Phase) -> Stepped
+    requires { ⌜ answer (first (recordTests (given (now pool) (now staging) count phase))) (shapeIn (now pool)) ≡ Good s ⌝ }
+    ensures { λ r. ⌜ afterOf r count (now (pool .exit)) (now (staging .entry)) ≡ commitStep (given (now (pool .entry)) (now (staging .entry)) count phase) ⌝ }
+{
+    match phase {
+        Phase::Open => Stepped {
+            answer: Answer::Refused(29),
+            phase,
+        },
+        Phase::Closed => Stepped {
+            answer: Answer::Refused(29),
+            phase,
+        },
+        Phase::Committing(k) => {
+            if sealed(s, pool, k) {
+                return Stepped {
+                    answer: Answer::Refused(21),
+                    phase,
+                };
+            }
+            make(s, pool, staging, count, k)
+        }
+    }
+}

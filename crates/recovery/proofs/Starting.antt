@@ -1,0 +1,77 @@
+-- The ways out of a recovery's start: what is to be done, and the reply. Assumes nothing.
+use Prim.Native.Nat.{ℕ}
+use mathlib.Core.Path.{_≡_, refl}
+use mathlib.Core.Bool.{Bool, true, false}
+use mathlib.Core.List.{List, [], _∷_}
+use borrow.Author.Tests.{eq-eqb, ne-eqb}
+use Rattle.rules.specs.Test.{first, when}
+use Rattle.rules.specs.Header.{openTests, shapeIn}
+use Rattle.rules.proofs.Test.{first-left, first-right}
+use Rattle.powercut.specs.Log.{countIn, valid}
+use Rattle.powercut.specs.Steps.{neither, remedy}
+use Rattle.powercut.specs.Recovery.{concludeRecovery, finished, isNeither, recoveryStart, startRecovery}
+use Rattle.words.specs.Loaded.{Loaded}
+use Rattle.layout.specs.declared.Shape.{Shape}
+use Rattle.layout.specs.declared.Opened.the-variants as Opening
+use Rattle.layout.specs.Reading.{opened, shapeOf}
+use Rattle.layout.proofs.Opening.{open-good, open-passed, open-refused}
+use Rattle.log.proofs.Targets.{loaded-word}
+use Rattle.answers.specs.declared.Answer.the-variants.{Refused}
+use Rattle.recovery.specs.declared.Work.{Work}
+use Rattle.recovery.specs.declared.Work.the-variants.{Clear, Neither, Nothing, ReplayA, ReplayB}
+use Rattle.recovery.specs.declared.Progress.the-variants.{Finished}
+use Rattle.recovery.specs.declared.Reply.{Reply}
+use Rattle.recovery.specs.Reading.{afterOf, workOf}
+use Rattle.recovery.specs.Advanced.{begun}
+
+-- ---- a pool that opens has its shape, and room for both logs
+
+-- ---- what is to be done
+
+module _ (s : Shape) (p : List ℕ) (a b : ℕ) (la : Loaded 8 p 512 a) (lb : Loaded 8 p 2560 b) (x : Bool) (ex : x ≡ valid (shapeOf s) p 512) where
+  pub find-a : (n : ℕ) → x ≡ true → n ≡ countIn a → workOf (ReplayA n) ≡ remedy (shapeOf s) p
+  unfolding remedy
+  find-a n h f = rw (← ex, h, f, loaded-word la)
+
+  module _ (hx : x ≡ false) (y : Bool) (ey : y ≡ valid (shapeOf s) p 2560) where
+    pub find-b : (n : ℕ) → y ≡ true → n ≡ countIn b → workOf (ReplayB n) ≡ remedy (shapeOf s) p
+    unfolding remedy
+    find-b n h f = rw (← ex, hx, ← ey, h, f, loaded-word lb)
+
+    module _ (hy : y ≡ false) where
+      pub find-nothing : a ≡ 0 → b ≡ 0 → workOf Nothing ≡ remedy (shapeOf s) p
+      unfolding remedy
+      find-nothing ha hb = rw (← ex, hx, ← ey, hy, ← (loaded-word la), eq-eqb a 0 ha, ← (loaded-word lb), eq-eqb b 0 hb)
+
+      pub find-only-b : a ≡ 0 → (b ≡ 0 → ⊥) → workOf Clear ≡ remedy (shapeOf s) p
+      unfolding remedy
+      find-only-b ha hb = rw (← ex, hx, ← ey, hy, ← (loaded-word la), eq-eqb a 0 ha, ← (loaded-word lb), ne-eqb b 0 hb)
+
+      pub find-only-a : (a ≡ 0 → ⊥) → b ≡ 0 → workOf Clear ≡ remedy (shapeOf s) p
+      unfolding remedy
+      find-only-a ha hb = rw (← ex, hx, ← ey, hy, ← (loaded-word la), ne-eqb a 0 ha, ← (loaded-word lb), eq-eqb b 0 hb)
+
+      pub find-neither : (a ≡ 0 → ⊥) → (b ≡ 0 → ⊥) → workOf Neither ≡ remedy (shapeOf s) p
+      unfolding remedy
+      find-neither ha hb = rw (← ex, hx, ← ey, hy, ← (loaded-word la), ne-eqb a 0 ha, ← (loaded-word lb), ne-eqb b 0 hb)
+
+-- ---- the reply
+
+begun-start : (p : List ℕ) (w : Work)
+    → afterOf (begun w) p ≡ concludeRecovery p (record { work = neither; phase = finished }) (first (when (isNeither (workOf w)) 22 ∷ [])) (startRecovery p (workOf w))
+unfolding concludeRecovery isNeither startRecovery first
+begun-start p (ReplayA n) = refl
+begun-start p (ReplayB n) = refl
+begun-start p Clear = refl
+begun-start p Nothing = refl
+begun-start p Neither = refl
+
+module _ (p : List ℕ) where
+  pub start-refused : (n : ℕ) → opened p ≡ Opening.Refused n → afterOf (record { answer = Refused n; recovery = record { work = Neither; phase = Finished } }) p ≡ recoveryStart p
+  unfolding recoveryStart concludeRecovery
+  start-refused n e = rw (first-left (openTests p) (when (isNeither (remedy (shapeIn p) p)) 22 ∷ []) n (open-refused p n e))
+
+  pub start-begun : (s : Shape) (w : Work) (r : Reply) → opened p ≡ Opening.Good s → workOf w ≡ remedy (shapeOf s) p → r ≡ begun w → afterOf r p ≡ recoveryStart p
+  unfolding recoveryStart
+  start-begun s w r e f g =
+      rw (first-right (openTests p) (when (isNeither (remedy (shapeIn p) p)) 22 ∷ []) (open-passed p s e), ← (open-good p s e .2), ← f, g) (begun-start p w)

@@ -1,0 +1,5 @@
+pub mod Saving
+pub mod Uncut
+pub mod Saved
+pub mod Ascending
+pub mod TakenBack

@@ -1,0 +1,114 @@
+-- What a save does to a pool: its ways out, and what its answer tells of a sound pool. Assumes nothing.
+use Prim.Native.Nat.{ℕ, _≤_}
+use mathlib.Core.Path.{_≡_, refl, sym, ap, _∙_, subst}
+use mathlib.Core.Bool.{Bool, true, false}
+use mathlib.Core.List.{List, [], _∷_}
+use native.Mathlib.Omega.{arith}
+use lib.ListN.{length}
+use borrow.Author.Tests.{ltb-false}
+use Rattle.rules.specs.Shape.{stagingSize}
+use Rattle.rules.specs.Header.{openTests}
+use Rattle.rules.specs.Staging.{Transaction, fresh}
+use Rattle.rules.specs.Answer.{After, Answer, Given, address, isRefused}
+use Rattle.rules.specs.Plan.{Call, allocate, plan}
+use Rattle.rules.specs.Calls.{Typed, begun, call, callTests, calls, recordTests}
+use Rattle.rules.specs.NewBook.{newBook, newBooks, onAddress}
+use Rattle.rules.specs.Sound.{Sound, bookOf}
+use Rattle.rules.proofs.Bool.{split}
+use Rattle.rules.proofs.Test.{first-passed, passed-left, passed-right}
+use Rattle.rules.proofs.Transaction.{call-refused}
+use Rattle.powercut.specs.WholeRun.{made}
+use Rattle.powercut.specs.Claim.{new}
+use Rattle.transaction.specs.declared.Transaction as Code
+use Rattle.transaction.specs.Reading.{givenOf, transactionOf}
+use Rattle.saving.specs.Saving.{Outcome, Saves, Told, committedFor, isDone, outcome, saveOn, saved, savedAs}
+use Rattle.saving.proofs.Uncut.{Ended, commit-ends, concluded, refused-is}
+use Rattle.powercut.proofs.RunMatches.{accepted-none}
+
+-- ---- what an answer tells
+
+accepted-room : (g : Given) (k : Call) → isRefused (call g k .answer) ≡ false → stagingSize ≤ length (g .staging)
+unfolding call callTests recordTests
+accepted-room g k f =
+    let e = accepted-none g _ _ f in
+    let p = passed-right (openTests (g .pool)) _ (passed-left (recordTests g) _ (first-passed _ e)) in
+    omega (arith, ltb-false, p .0)
+
+pub allocate-address : (g : Given) (t : ℕ) (b : List ℕ) → isRefused (call g (allocate t b) .answer) ≡ false → (a : ℕ) × (call g (allocate t b) .answer ≡ address a)
+unfolding call plan
+allocate-address g t b f = (_, ap (λ (x : After). x .answer) (concluded g _ _ f))
+
+told-refused : (old : List ℕ) (tag : ℕ) (body new : List ℕ) (a : Answer) → isRefused a ≡ true → new ≡ old → Told old tag body new a
+told-refused old tag body new a r e = subst (Told old tag body new) (sym (refused-is a r .1)) e
+
+module _ (pool staging : List ℕ) (tag : ℕ) (body : List ℕ) where
+  abbrev x : After
+  x = call (begun pool staging) (allocate tag body)
+
+  abbrev y : After
+  y = committedFor 771 (x .left)
+
+  abbrev ks : List Call
+  ks = allocate tag body ∷ []
+
+  made-left : made pool staging ks .left ≡ x .left
+  unfolding made calls
+  made-left = refl
+
+  pub made-new : (a : ℕ) → x .answer ≡ address a → new pool staging ks ≡ newBook (allocate tag body) (address a) (bookOf pool)
+  unfolding made calls newBooks
+  made-new a e = ap (λ (z : Answer). newBook (allocate tag body) z (bookOf pool)) e
+
+  module _ (sound : Sound pool) (typed : Typed (allocate tag body)) where
+    told-first : isRefused (x .answer) ≡ true → Told pool tag body (x .left .pool) (x .answer)
+    unfolding begun
+    told-first r = told-refused pool tag body (x .left .pool) (x .answer) r (ap (λ (g : Given). g .pool) (call-refused (begun pool staging) (allocate tag body) r))
+
+    told-done : isRefused (x .answer) ≡ false → Sound (y .left .pool) → bookOf (y .left .pool) ≡ new pool staging ks → Told pool tag body (y .left .pool) (x .answer)
+    unfolding newBook onAddress
+    told-done f s b =
+        let a = allocate-address (begun pool staging) tag body f in
+        subst (Told pool tag body (y .left .pool)) (sym (a .1)) (s, b ∙ made-new (a .0) (a .1))
+
+    ended : isRefused (x .answer) ≡ false → Ended pool staging ks sound (typed, tt) y
+    unfolding begun
+    ended f = subst (λ (g : Given). Ended pool staging ks sound (typed, tt) (committedFor 771 g)) made-left (commit-ends pool staging ks sound (typed, tt) (accepted-room (begun pool staging) (allocate tag body) f) 771 (omega arith))
+
+    told-last : isRefused (x .answer) ≡ false → (savedAs (x .answer) y .answer ≡ x .answer) × Told pool tag body (savedAs (x .answer) y .pool) (savedAs (x .answer) y .answer)
+    unfolding savedAs isDone
+    told-last f = let w = ended f in rw (w .0 .1) (refl, told-done f (w .1) (w .2))
+
+    saved-told : (saved pool staging tag body .answer ≡ x .answer) × Told pool tag body (saved pool staging tag body .pool) (saved pool staging tag body .answer)
+    unfolding saved saveOn
+    saved-told = split (isRefused (x .answer)) (λ r. rw r (refl, told-first r)) (λ f. rw f (told-last f))
+
+  -- ---- the ways out: z is what allocate answers and leaves, w what the commit does
+
+  saves : (z : After) {o : Outcome} → Typed (allocate tag body) → z ≡ x → o ≡ saveOn z → Saves pool staging tag body o
+  unfolding saved
+  saves z {o} typed e q =
+      let p : o ≡ saved pool staging tag body = q ∙ ap saveOn e in
+      record {
+        exact = p;
+        answers = λ sound. ap (λ (o : Outcome). o .answer) p ∙ saved-told sound typed .0;
+        told = λ sound. subst (λ (o : Outcome). Told pool tag body (o .pool) (o .answer)) (sym p) (saved-told sound typed .1);
+      }
+
+  pub allocated : (t : Code.Transaction) {z : After} → transactionOf t ≡ fresh → z ≡ call (givenOf t pool staging) (allocate tag body) → z ≡ x
+  unfolding begun
+  allocated t e q = q ∙ ap (λ (n : Transaction). call (record { pool = pool; staging = staging; txn = n }) (allocate tag body)) e
+
+  pub save-refused : Typed (allocate tag body) → (t : Code.Transaction) (z : After) {b : Bool} → transactionOf t ≡ fresh → z ≡ call (givenOf t pool staging) (allocate tag body)
+      → b ≡ isRefused (z .answer) → b ≡ true → Saves pool staging tag body (outcome (z .answer) (z .left))
+  unfolding saveOn
+  save-refused typed t z e q r h = saves z typed (allocated t e q) (rw (sym r ∙ h))
+
+  module _ (typed : Typed (allocate tag body)) (t : Code.Transaction) (z w : After) {b d : Bool} (e : transactionOf t ≡ fresh) (q : z ≡ call (givenOf t pool staging) (allocate tag body))
+      (r : b ≡ isRefused (z .answer)) (f : b ≡ false) (c : w ≡ committedFor 771 (z .left)) (l : d ≡ isDone (w .answer)) where
+    pub save-done : d ≡ true → Saves pool staging tag body (outcome (z .answer) (w .left))
+    unfolding saveOn savedAs
+    save-done h = saves z typed (allocated t e q) (rw (sym r ∙ f, sym c, sym l ∙ h))
+
+    pub save-else : d ≡ false → Saves pool staging tag body (outcome (w .answer) (w .left))
+    unfolding saveOn savedAs
+    save-else h = saves z typed (allocated t e q) (rw (sym r ∙ f, sym c, sym l ∙ h))

@@ -1,0 +1,96 @@
+-- An object allocated and freed again: the ways out, and that the new book is the old one. Assumes nothing.
+use Prim.Native.Nat.{ℕ}
+use mathlib.Core.Path.{_≡_, refl, sym, ap, ap₂, _∙_, subst}
+use mathlib.Core.Bool.{Bool, true, false}
+use mathlib.Core.List.{List, [], _∷_}
+use native.Mathlib.Omega.{arith}
+use Rattle.rules.specs.Header.{shapeIn}
+use Rattle.rules.specs.Book.{Listed, enter, strike}
+use Rattle.rules.specs.Staging.{fresh}
+use Rattle.rules.specs.Answer.{After, Answer, Given, address, isRefused, taken}
+use Rattle.rules.specs.Plan.{Call, allocate, plan, release}
+use Rattle.rules.specs.Calls.{Typed, begun, call, calls}
+use Rattle.rules.specs.NewBook.{newBook, newBooks, onAddress, onTaken}
+use Rattle.rules.specs.Sound.{Sound, bookOf}
+use Rattle.rules.proofs.Bool.{split}
+use Rattle.rules.proofs.Sound.{sound-fits}
+use Rattle.powercut.specs.WholeRun.{entries, made}
+use Rattle.powercut.specs.Claim.{new}
+use Rattle.powercut.proofs.RunMatches.{held}
+use Rattle.transaction.specs.declared.Transaction as Code
+use Rattle.transaction.specs.Reading.{givenOf, transactionOf}
+use Rattle.saving.specs.TakenBack.{TakesBack, addressIn, both, freeOn, takenBack}
+use Rattle.saving.proofs.Uncut.{concluded}
+use Rattle.saving.proofs.Saved.{allocate-address, allocated, made-new}
+use Rattle.saving.proofs.Ascending.{Ascends, held-ascends, strike-entered}
+
+free-taken : (g : Given) (a : ℕ) → isRefused (call g (release a) .answer) ≡ false → call g (release a) .answer ≡ taken
+unfolding call plan
+free-taken g a f = ap (λ (x : After). x .answer) (concluded g _ _ f)
+
+address-is : (x : Answer) (a : ℕ) → x ≡ address a → addressIn x ≡ a
+unfolding addressIn
+address-is x a e = ap addressIn e
+
+on-refused : (x : After) → isRefused (x .answer) ≡ true → freeOn x ≡ x
+unfolding freeOn
+on-refused x r = rw r
+
+on-allocated : (x : After) → isRefused (x .answer) ≡ false → freeOn x ≡ call (x .left) (release (addressIn (x .answer)))
+unfolding freeOn
+on-allocated x f = rw f
+
+module _ (pool staging : List ℕ) (tag : ℕ) (body : List ℕ) where
+  abbrev x : After
+  x = call (begun pool staging) (allocate tag body)
+
+  abbrev ks : List Call
+  ks = allocate tag body ∷ []
+
+  abbrev object-at : ℕ → Listed
+  object-at a = record { addr = a; tag = tag; body = body }
+
+  -- the calls' new book
+  both-new : (a : ℕ) → x .answer ≡ address a → call (x .left) (release a) .answer ≡ taken → new pool staging (both a tag body) ≡ strike a (enter (object-at a) (bookOf pool))
+  unfolding made calls newBooks newBook onAddress onTaken
+  both-new a e q = ap₂ (λ (y z : Answer). newBook (release a) z (newBook (allocate tag body) y (bookOf pool))) e q
+
+  both-left : (a : ℕ) → made pool staging (both a tag body) .left ≡ call (x .left) (release a) .left
+  unfolding made calls
+  both-left a = refl
+
+  module _ (sound : Sound pool) (typed : Typed (allocate tag body)) where
+    -- AN OBJECT ALLOCATED AND FREED AGAIN LEAVES THE BOOK
+    pub allocate-free : (a : ℕ) → x .answer ≡ address a → strike a (enter (object-at a) (bookOf pool)) ≡ bookOf pool
+    unfolding newBook onAddress
+    allocate-free a e =
+        let h = held-ascends (shapeIn pool) pool (entries pool staging ks) (new pool staging ks) (sound-fits pool sound) (held (record { pool = pool; staging = staging; ks = ks; sound = sound; typed = (typed, tt) })) in
+        strike-entered 0 (object-at a) (bookOf pool) (subst (Ascends 0) (made-new pool staging tag body a e) h)
+
+    freed-same : (a : ℕ) → x .answer ≡ address a → isRefused (call (x .left) (release a) .answer) ≡ false → new pool staging (both a tag body) ≡ bookOf pool
+    freed-same a e f = both-new a e (free-taken (x .left) a f) ∙ allocate-free a e
+
+    back-same : isRefused (freeOn x .answer) ≡ false
+        → (a : ℕ) × (freeOn x .left ≡ made pool staging (both a tag body) .left) × (new pool staging (both a tag body) ≡ bookOf pool)
+    back-same f = split (isRefused (x .answer))
+        (λ r. absurd (let g : isRefused (x .answer) ≡ false = subst (λ (y : After). isRefused (y .answer) ≡ false) (on-refused x r) f in let z : _≡_ {A = ℕ} 0 1 = cc in omega arith))
+        (λ i.
+        let a = allocate-address (begun pool staging) tag body i in
+        let p : freeOn x ≡ call (x .left) (release (a .0)) = on-allocated x i ∙ ap (λ (n : ℕ). call (x .left) (release n)) (address-is (x .answer) (a .0) (a .1)) in
+        (a .0, ap (λ (y : After). y .left) p ∙ sym (both-left (a .0)), freed-same (a .0) (a .1) (subst (λ (y : After). isRefused (y .answer) ≡ false) p f)))
+
+  -- ---- the ways out: z is what allocate answers and leaves, w what free does
+
+  takes : Typed (allocate tag body) → {w : After} → w ≡ freeOn x → TakesBack pool staging tag body w
+  unfolding takenBack
+  takes typed {w} e = record {
+    exact = e;
+    same = λ sound f. subst (λ (y : After). (a : ℕ) × (y .left ≡ made pool staging (both a tag body) .left) × (new pool staging (both a tag body) ≡ bookOf pool)) (sym e) (back-same sound typed (subst (λ (y : After). isRefused (y .answer) ≡ false) e f));
+  }
+
+  module _ (typed : Typed (allocate tag body)) (t : Code.Transaction) (z : After) {b : Bool} (e : transactionOf t ≡ fresh) (q : z ≡ call (givenOf t pool staging) (allocate tag body)) (r : b ≡ isRefused (z .answer)) where
+    pub back-refused : b ≡ true → TakesBack pool staging tag body z
+    back-refused h = takes typed (sym (on-refused z (sym r ∙ h)) ∙ ap freeOn (allocated pool staging tag body t e q))
+
+    pub back-freed : b ≡ false → (n : ℕ) {w : After} → n ≡ addressIn (z .answer) → w ≡ call (z .left) (release n) → TakesBack pool staging tag body w
+    back-freed h n i p = takes typed (p ∙ ap (λ (m : ℕ). call (z .left) (release m)) i ∙ sym (on-allocated z (sym r ∙ h)) ∙ ap freeOn (allocated pool staging tag body t e q))

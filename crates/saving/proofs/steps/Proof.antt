@@ -1,0 +1,69 @@
+-- `saving::steps` meets its contract: what is left to do gives the whole. Assumes nothing.
+use borrow.Author.Needs.{needs}
+use mathlib.Core.Path.{_≡_, sym, _∙_}
+use lib.ListN.{length}
+use Rattle.transaction.specs.Reading.{afterOf}
+use Rattle.saving.specs.Saving.{stepsFrom}
+use Rattle.saving.proofs.Saving.{steps-end, steps-none, steps-on}
+use native.Mathlib.Omega.{arith}
+use Rattle.saving.proofs.steps.Statement.{statement}
+use Rattle.saving.proofs.steps.Tie as tie
+
+abbrev Inv-loop : tie.InvT-loop
+Inv-loop pool₀ staging budget r₀ left₀ pool r left = (length pool ≡ length pool₀) × (stepsFrom left (afterOf r pool staging) ≡ stepsFrom budget (afterOf r₀ pool₀ staging))
+
+abbrev μ-loop : tie.MeasureT-loop
+μ-loop pool₀ staging budget r₀ left₀ pool r left = left
+
+loop-holds : tie.Need-loop-holds Inv-loop μ-loop
+loop-holds c = search needs
+
+ends-requires : tie.Need-ends-requires Inv-loop μ-loop
+ends-requires c κs = search needs
+
+same-length : tie.Need-same-length Inv-loop μ-loop
+same-length c = search needs
+
+returns : tie.Need-returns Inv-loop μ-loop
+returns c =
+    let l = c .before .before .before .loop in
+    sym (steps-end (l .left) (afterOf (l .r) (l .pool) (c .before .before .before .before .before .before .args .staging .now)) (c .before .ends .ensures) (c .if1 .taken)) ∙ l .inv .1
+
+step-requires : tie.Need-step-requires Inv-loop μ-loop
+step-requires c κs = search needs
+
+sub-left : tie.Need-sub-left Inv-loop μ-loop
+sub-left c = search needs
+
+loop-less : tie.Need-loop-less Inv-loop μ-loop
+loop-less c = search needs
+
+loop-again : tie.Need-loop-again Inv-loop μ-loop
+loop-again c =
+    let l = c .before .before .before .before .before .before .before .before .loop in
+    (search needs, steps-on (l .left) (afterOf (l .r) (l .pool) (c .before .before .before .before .before .before .before .before .before .before .before .args .staging .now)) _ (omega arith) (c .before .before .before .before .before .before .ends .ensures) (c .before .before .before .before .before .if1 .left) (c .before .before .step .ensures) ∙ l .inv .1)
+
+same-length-2 : tie.Need-same-length-2 Inv-loop μ-loop
+same-length-2 c = search needs
+
+returns-2 : tie.Need-returns-2 Inv-loop μ-loop
+returns-2 c =
+    let l = c .before .loop in
+    sym (steps-none (l .left) (afterOf (l .r) (l .pool) (c .before .before .before .before .args .staging .now)) (omega arith)) ∙ l .inv .1
+
+pub steps-spec : {M : Type 1} → statement M
+steps-spec =
+    tie.close
+    (tie.spec
+    Inv-loop
+    μ-loop
+    loop-holds
+    ends-requires
+    same-length
+    returns
+    step-requires
+    sub-left
+    loop-less
+    loop-again
+    same-length-2
+    returns-2)

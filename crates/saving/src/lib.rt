@@ -1,0 +1,124 @@
+// Callers of the transaction's calls, proved from the contracts of these alone: a commit made step after step, an object saved, and
+// one allocated and freed again. No function has a `requires`.
+ghost use mathlib.Core.Path.{_≡_};
+ghost use Rattle.rules.specs.Answer.{isRefused};
+ghost use Rattle.answers.specs.Reading.{answerOf};
+ghost use Rattle.transaction.specs.Reading.{afterOf, givenOf};
+ghost use Rattle.saving.specs.Saving.{committedFor, isDone, isEnd, Saves, stepsFrom};
+ghost use Rattle.saving.specs.Reading.{outcomeOf};
+ghost use Rattle.saving.specs.TakenBack.{addressIn, TakesBack};
+use answers::Answer;
+use transaction::Reply;
+use transaction::Transaction;
+
+fn is_done(answer: Answer) -> bool
+    ensures { λ r. ⌜ r ≡ isDone (answerOf answer) ⌝ }
+{
+    match answer {
+        Answer::Address(_) => false,
+        Answer::Taken => false,
+        Answer::Started => false,
+        Answer::Stored(_) => false,
+        Answer::Passed(_) => false,
+        Answer::Done(_) => true,
+        Answer::Refused(_) => false,
+    }
+}
+
+fn is_refused(answer: Answer) -> bool
+    ensures { λ r. ⌜ r ≡ isRefused (answerOf answer) ⌝ }
+{
+    match answer {
+        Answer::Address(_) => false,
+        Answer::Taken => false,
+        Answer::Started => false,
+        Answer::Stored(_) => false,
+        Answer::Passed(_) => false,
+        Answer::Done(_) => false,
+        Answer::Refused(_) => true,
+    }
+}
+
+// Whether this answer ends a commit.
+fn ends(answer: Answer) -> bool
+    ensures { λ r. ⌜ r ≡ isEnd (answerOf answer) ⌝ }
+{
+    if is_done(answer) {
+        return true;
+    }
+    is_refused(answer)
+}
+
+// Makes at most `budget` steps more, from what the last call handed back.
+pub fn steps(reply: Reply, pool: &mut [u8], staging: &[u8], budget: usize) -> Reply
+    ensures { λ r. ⌜ afterOf r (now (pool .exit)) (now (staging .entry)) ≡ stepsFrom budget (afterOf reply (now (pool .entry)) (now (staging .entry))) ⌝ }
+{
+    let mut r = reply;
+    let mut left = budget;
+    while left > 0 {
+        let answer = r.answer;
+        if ends(answer) {
+            return r;
+        }
+        let txn = r.transaction;
+        r = txn.step(pool, staging);
+        left -= 1;
+    }
+    r
+}
+
+// Starts the commit and makes at most `budget` steps.
+pub fn run(txn: Transaction, pool: &mut [u8], staging: &[u8], budget: usize) -> Reply
+    ensures { λ r. ⌜ afterOf r (now (pool .exit)) (now (staging .entry)) ≡ committedFor budget (givenOf txn (now (pool .entry)) (now (staging .entry))) ⌝ }
+{
+    let reply = txn.commit(pool, staging);
+    steps(reply, pool, staging, budget)
+}
+
+// Saves an object: allocates it in a fresh transaction, and commits. Its address, or a refusal.
+pub fn save(pool: &mut [u8], staging: &mut [u8], tag: u32, body: &[u8]) -> Answer
+    ensures { λ r. ⌜ Saves (now (pool .entry)) (now (staging .entry)) tag (now (body .entry)) (outcomeOf r (now (pool .exit)) (now (staging .exit))) ⌝ }
+{
+    let fresh = Transaction::new();
+    let first = fresh.allocate(pool, staging, tag, body);
+    let answer = first.answer;
+    if is_refused(answer) {
+        return answer;
+    }
+    let txn = first.transaction;
+    let last = run(txn, pool, staging, 771);
+    let end = last.answer;
+    if is_done(end) {
+        return answer;
+    }
+    end
+}
+
+// The address answered; 0 where none is.
+fn address_in(answer: Answer) -> usize
+    ensures { λ r. ⌜ r ≡ addressIn (answerOf answer) ⌝ }
+{
+    match answer {
+        Answer::Address(a) => a,
+        Answer::Taken => 0,
+        Answer::Started => 0,
+        Answer::Stored(_) => 0,
+        Answer::Passed(_) => 0,
+        Answer::Done(_) => 0,
+        Answer::Refused(_) => 0,
+    }
+}
+
+// Allocates an object and frees it again: where both calls are taken, a commit would leave the old book.
+pub fn take_back(pool: &[u8], staging: &mut [u8], tag: u32, body: &[u8]) -> Reply
+    ensures { λ r. ⌜ TakesBack (now (pool .entry)) (now (staging .entry)) tag (now (body .entry)) (afterOf r (now (pool .entry)) (now (staging .exit))) ⌝ }
+{
+    let fresh = Transaction::new();
+    let first = fresh.allocate(pool, staging, tag, body);
+    let answer = first.answer;
+    if is_refused(answer) {
+        return first;
+    }
+    let txn = first.transaction;
+    txn.free(pool, staging, address_in(answer))
+}

@@ -1,10 +1,10 @@
--- `examples::ramp` is safe and ends. Assumes nothing.
+-- `example_checks::ramp` is safe and ends. Assumes nothing.
 use Prim.Native.Nat.{_-_, _≤_}
 use mathlib.Core.Path.{_≡_}
 use lib.ListN.{length, length-set}
 use borrow.Author.Needs.{needs}
-use Rattle.examples.proofs.ramp.Statement.{statement}
-use Rattle.examples.proofs.ramp.Tie as tie
+use Rattle.example_checks.proofs.ramp.Statement.{statement}
+use Rattle.example_checks.proofs.ramp.Tie as tie
 
 abbrev Inv-loop : tie.InvT-loop
 Inv-loop s₀ i₀ i-end s i = (i ≤ i-end) × (i-end ≡ length s₀) × (length s ≡ length s₀)

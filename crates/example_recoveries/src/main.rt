@@ -1,0 +1,68 @@
+// A commit cut and recovered in the pool R 2, C 2, Z 1: the bench example of document 01 on a cut with only seal A stored, and what a recovery
+// refuses. What is printed is compared with the stored values in `stdout`, which were worked out apart from this code.
+use calls::look;
+use driver::recover;
+use recovery::Recovery;
+use report::answer;
+use transaction::Transaction;
+
+fn set(s: &mut [u8], at: usize, b: u8) {
+    if at < s.len() {
+        s[at] = b;
+    }
+}
+
+// Cut after 42 steps: the entries and seal A.
+fn cuts(p: &mut [u8], s: &mut [u8]) {
+    let t = calls::allocate(
+        b"allocate tag 5, body 61: ",
+        Transaction::new(),
+        p,
+        s,
+        5,
+        b"a",
+    );
+    calls::commit(b"  cut with seal A alone: ", t, p, s, 42);
+    look(p);
+}
+
+fn recovers(p: &mut [u8]) {
+    answer(b"  recovery: ", recover(p));
+    report::check(b"  check of that pool: ", p, 6144);
+    look(p);
+    answer(b"  recovery of that pool: ", recover(p));
+}
+
+// Neither log is valid: both seals set, then one.
+fn seals(p: &mut [u8]) {
+    set(p, 512, 1);
+    set(p, 2560, 1);
+    answer(b"recovery with both seals set: ", recover(p));
+    set(p, 2560, 0);
+    answer(b"recovery with one set: ", recover(p));
+}
+
+fn finished(p: &mut [u8]) {
+    let r = Recovery::start(p);
+    let recovery = r.recovery;
+    let r = recovery.step(p);
+    let a = r.answer;
+    answer(b"step of a finished one: ", a);
+}
+
+fn headers(p: &mut [u8]) {
+    set(p, 0, 0);
+    set(p, 256, 0);
+    answer(b"recovery without a header: ", recover(p));
+}
+
+fn main() {
+    let mut pool = [0u8; 6144];
+    let mut staging = [7u8; 2032];
+    pool::format(&mut pool, 2, 2, 1, 1);
+    cuts(&mut pool, &mut staging);
+    recovers(&mut pool);
+    seals(&mut pool);
+    finished(&mut pool);
+    headers(&mut pool);
+}

@@ -1,0 +1,82 @@
+// What the example programs print: a name, then a check, a number, a body, or the outcome of a call.
+use answers::Answer;
+use io::print_decimal;
+use io::print_hex;
+use libc::STDOUT_FILENO;
+use pool::Outcome;
+
+// The check of the first `n` bytes of `s`.
+pub fn check(name: &[u8], s: &[u8], n: usize) {
+    if n <= s.len() {
+        value(name, sums::check(&s[0..n]));
+    }
+}
+
+pub fn value(name: &[u8], v: u32) {
+    hex(name, v as u64);
+}
+
+// The last eight hexadecimal digits of `v`.
+pub fn hex(name: &[u8], v: u64) {
+    io::write_all(STDOUT_FILENO, name);
+    print_hex(STDOUT_FILENO, v, 8);
+    io::write_all(STDOUT_FILENO, b"\n");
+}
+
+pub fn outcome(name: &[u8], o: Outcome) {
+    io::write_all(STDOUT_FILENO, name);
+    match o {
+        Outcome::Done => {
+            io::write_all(STDOUT_FILENO, b"done\n");
+        }
+        Outcome::Refused(n) => {
+            io::write_all(STDOUT_FILENO, b"refused ");
+            print_decimal(STDOUT_FILENO, n as u64);
+            io::write_all(STDOUT_FILENO, b"\n");
+        }
+    }
+}
+
+fn numbered(word: &[u8], n: usize) {
+    io::write_all(STDOUT_FILENO, word);
+    print_decimal(STDOUT_FILENO, n as u64);
+    io::write_all(STDOUT_FILENO, b"\n");
+}
+
+pub fn number(name: &[u8], n: usize) {
+    io::write_all(STDOUT_FILENO, name);
+    numbered(b"", n);
+}
+
+pub fn answer(name: &[u8], a: Answer) {
+    io::write_all(STDOUT_FILENO, name);
+    match a {
+        Answer::Address(n) => numbered(b"address ", n),
+        Answer::Taken => {
+            io::write_all(STDOUT_FILENO, b"taken\n");
+        }
+        Answer::Started => {
+            io::write_all(STDOUT_FILENO, b"started\n");
+        }
+        Answer::Stored(k) => numbered(b"stored, step ", k),
+        Answer::Passed(k) => numbered(b"barrier, step ", k),
+        Answer::Done(k) => numbered(b"done, steps ", k),
+        Answer::Refused(n) => numbered(b"refused ", n as usize),
+    }
+}
+
+// The object at `address`: its body's first byte and length, or the refusal.
+pub fn body(name: &[u8], pool: &[u8], address: usize) {
+    io::write_all(STDOUT_FILENO, name);
+    first(pool::look(pool, address), pool::look_refusal(pool, address));
+}
+
+// The first byte and the length of `part`; of none, the refusal `n`.
+fn first(part: &[u8], n: u8) {
+    if part.len() == 0 {
+        numbered(b"refused ", n as usize);
+        return;
+    }
+    print_hex(STDOUT_FILENO, words::load8(part, 0), 2);
+    numbered(b", length ", part.len());
+}

@@ -3,7 +3,7 @@ ghost use mathlib.Core.Path.{_≡_};
 ghost use Prim.Native.Nat.{_+_, _≤_, _<_};
 ghost use lib.ListN.{length, take, drop, replicate};
 ghost use lib.Seq.{sets};
-ghost use Rattle.rules.specs.Shape.{headSize, pageSize, shape};
+ghost use Rattle.rules.specs.Shape.{headSize, shape};
 ghost use Rattle.rules.specs.Header.{headerBytes, headerFront};
 ghost use Rattle.rules.specs.Runs.{freeHead};
 ghost use Rattle.pages.specs.Written.{Apart, HeaderFits};

@@ -9,13 +9,15 @@ use native.Mathlib.Omega.{arith}
 use lib.Dec.{eqb}
 use lib.ListN.{length, drop, getD, replicate}
 use lib.Seq.{drop-cons, drop-length}
-use borrow.Author.Tests.{eqb-true}
+use lib.Bits.{bitOr}
+use borrow.Author.Tests.{eq-eqb, eqb-true}
 use Rattle.rules.specs.Words.{field, number}
 use Rattle.rules.specs.Shape.{pageSize}
 use Rattle.rules.specs.Header.{same}
 use Rattle.rules.proofs.Bool.{split}
 use Rattle.words.specs.Loaded.{Loaded}
 use Rattle.words.proofs.Fields.{field-byte, field-join}
+use Rattle.header.proofs.Bits.{or-zero}
 
 -- from place i on a page is zero
 unfoldable pub zeros : List ℕ → ℕ → Bool
@@ -51,12 +53,32 @@ module _ (h : List ℕ) (l : length h ≡ pageSize) where
       (λ e. rw e (field-stop k (i + 1) (omega arith) (λ z. f (field-suc k i ∙ rw (eqb-true (getD h i 0) 0 e, z)))))
       (λ e. rw e)
 
-  pub zeros-go : (k i r : ℕ) → i + k ≤ pageSize → Loaded k h i r → r ≡ 0 → zeros h (i + k) ≡ zeros h i
-  zeros-go k i r m u e = field-go k i m (sym (u .value) ∙ e)
+  -- the bits of the fields passed, and the next field's: all are zero where the page is from place i on
+  pub zeros-join : (k i bits r : ℕ) (g : Bool) → i + k ≤ pageSize → Loaded k h i r → (eqb bits 0 && zeros h i) ≡ g → (eqb (bitOr bits r) 0 && zeros h (i + k)) ≡ g
+  zeros-join k i bits r g m u e =
+      rw (or-zero bits r, u .value)
+      (split (eqb (field k h i) 0)
+      (λ z. rw (z, field-go k i m (eqb-true (field k h i) 0 z)) (and-one (eqb bits 0) (zeros h i) ∙ e))
+      (λ z. rw z (and-none (eqb bits 0) (zeros h (i + k)) (zeros h i) (field-stop k i m (λ q. unequal (field k h i) q z)) ∙ e)))
+    where
+      and-one : (a b : Bool) → ((a && true) && b) ≡ (a && b)
+      and-one true b = refl
+      and-one false b = refl
 
-  pub zeros-stop : (k i r : ℕ) → i + k ≤ pageSize → Loaded k h i r → (r ≡ 0 → ⊥) → false ≡ zeros h i
-  zeros-stop k i r m u f = sym (field-stop k i m (λ z. f (u .value ∙ z)))
+      and-none : (a b d : Bool) → d ≡ false → ((a && false) && b) ≡ (a && d)
+      and-none true b d z = sym z
+      and-none false b d z = refl
 
-  pub zeros-end : (i : ℕ) → i ≡ pageSize → true ≡ zeros h i
+      unequal : (n : ℕ) → n ≡ 0 → eqb n 0 ≡ false → ⊥
+      unequal n q z = let w : _≡_ {A = ℕ} 0 1 = cc (eq-eqb n 0 q) in omega arith
+
+  pub zeros-end : (i bits : ℕ) (g : Bool) → i ≡ pageSize → (eqb bits 0 && zeros h i) ≡ g → eqb bits 0 ≡ g
   unfolding zeros same
-  zeros-end i e = let d : drop i h ≡ [] = ap (λ (n : ℕ). drop n h) (e ∙ sym l) ∙ drop-length h in rw (d, e)
+  zeros-end i bits g m e =
+      let d : drop i h ≡ [] = ap (λ (n : ℕ). drop n h) (m ∙ sym l) ∙ drop-length h in
+      let z : zeros h i ≡ true = rw (d, m) in
+      sym (and-true (eqb bits 0) (zeros h i) z) ∙ e
+    where
+      and-true : (a b : Bool) → b ≡ true → (a && b) ≡ a
+      and-true true b z = z
+      and-true false b z = refl

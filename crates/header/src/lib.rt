@@ -63,22 +63,32 @@ fn check_ok(h: &[u8]) -> bool
     words::load32(h, 16) == sums::check(&h[..16]) as u64
 }
 
-// Whether the rest is zero: 4 bytes, then words to the page's end.
+// Whether the rest is zero: 4 bytes, then words to the page's end. No way out before the end, so that the compiler takes many bytes at once.
 fn rest_ok(h: &[u8]) -> bool
     requires { ⌜ length (now h) ≡ pageSize ⌝ }
     ensures { λ r. ⌜ r ≡ same (drop 20 (now (h .entry))) (replicate (pageSize - 20) 0) ⌝ }
 {
-    if words::load32(h, 20) != 0 {
-        return false;
-    }
+    let mut bits = words::load32(h, 20);
     let mut i = 24;
     while i < 256 {
-        if words::load64(h, i) != 0 {
-            return false;
-        }
+        bits = bits | words::load64(h, i);
         i += 8;
     }
-    true
+    bits == 0
+}
+
+// Whether a header page and its copy hold the same bytes; likewise no way out before the end.
+pub fn pages_same(a: &[u8], b: &[u8]) -> bool
+    requires { ⌜ (length (now a) ≡ pageSize) × (length (now b) ≡ pageSize) ⌝ }
+    ensures { λ r. ⌜ r ≡ same (now (a .entry)) (now (b .entry)) ⌝ }
+{
+    let mut bits: u8 = 0;
+    let mut i = 0;
+    while i < 256 {
+        bits = bits | (a[i] ^ b[i]);
+        i += 1;
+    }
+    bits == 0
 }
 
 // Whether the header page is valid.

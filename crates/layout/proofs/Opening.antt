@@ -14,7 +14,7 @@ use Rattle.rules.specs.Header.{differing, headerOk, headerShape, inRange, openT
 use Rattle.rules.proofs.Bool.{split}
 use Rattle.rules.proofs.Shape.{Good as GoodShape}
 use Rattle.rules.proofs.Test.{Passed, first-passed, not-not, passed-first}
-use Rattle.rules.proofs.Header.{header-range}
+use Rattle.rules.proofs.Header.{header-range, same-eq}
 use Rattle.layout.specs.declared.Shape.{Shape}
 use Rattle.layout.specs.declared.Opened.{Opened}
 use Rattle.layout.specs.declared.Opened.the-variants.{Good, Refused}
@@ -41,28 +41,37 @@ module _ (p : List ℕ) where
   unfolding opened openTests first answer
   open-short h = rw (lt-ltb (length p) 512 h)
 
-  pub open-neither : (a b : Bool) → 512 ≤ length p → a ≡ validHeader p 0 → a ≡ false → b ≡ validHeader p 256 → b ≡ false → Refused 3 ≡ opened p
-  unfolding opened openTests first answer
-  open-neither a b l e h f k = rw (le-ltb (length p) 512 l, ← e, h, ← f, k)
+  -- the copy equals the header: both are valid or neither is
+  module _ (a : Bool) (l : 512 ≤ length p) (d : same (pageAt p 0) (pageAt p 256) ≡ true) (e : a ≡ validHeader p 0) where
+    copy-valid : a ≡ validHeader p 256
+    unfolding validHeader
+    copy-valid = e ∙ ap headerOk (same-eq (pageAt p 0) (pageAt p 256) d)
 
-  pub open-differing : (b r : Bool) → 512 ≤ length p → validHeader p 0 ≡ true → b ≡ validHeader p 256 → b ≡ true
-      → r ≡ same (pageAt p 0) (pageAt p 256) → r ≡ false → Refused 4 ≡ opened p
-  unfolding opened openTests first answer differing
-  open-differing b r l h f k e d = rw (le-ltb (length p) 512 l, h, ← f, k, ← e, d)
+    pub open-equal : (t : Opened) → a ≡ true → t ≡ openedBy (pageAt p 0) (length p) → t ≡ opened p
+    unfolding opened openTests first answer differing shapeIn openedBy
+    open-equal t h g = rw (le-ltb (length p) 512 l, ← e, ← copy-valid, h, d) g
 
-  pub open-equal : (b r : Bool) (t : Opened) → 512 ≤ length p → validHeader p 0 ≡ true → b ≡ validHeader p 256 → b ≡ true
-      → r ≡ same (pageAt p 0) (pageAt p 256) → r ≡ true → t ≡ openedBy (pageAt p 0) (length p) → t ≡ opened p
-  unfolding opened openTests first answer differing shapeIn openedBy
-  open-equal b r t l h f k e d g = rw (le-ltb (length p) 512 l, h, ← f, k, ← e, d) g
+    pub open-none : a ≡ false → Refused 3 ≡ opened p
+    unfolding opened openTests first answer
+    open-none h = rw (le-ltb (length p) 512 l, ← e, ← copy-valid, h)
 
-  pub open-header : (b : Bool) (t : Opened) → 512 ≤ length p → validHeader p 0 ≡ true → b ≡ validHeader p 256 → b ≡ false → t ≡ openedBy (pageAt p 0) (length p) → t ≡ opened p
-  unfolding opened openTests first answer differing shapeIn openedBy
-  open-header b t l h f k g = rw (le-ltb (length p) 512 l, h, ← f, k) g
+  -- it does not
+  module _ (a b : Bool) (l : 512 ≤ length p) (d : same (pageAt p 0) (pageAt p 256) ≡ false) (e : a ≡ validHeader p 0) (f : b ≡ validHeader p 256) where
+    pub open-differing : a ≡ true → b ≡ true → Refused 4 ≡ opened p
+    unfolding opened openTests first answer differing
+    open-differing h k = rw (le-ltb (length p) 512 l, ← e, h, ← f, k, d)
 
-  pub open-copy : (a b : Bool) (t : Opened) → 512 ≤ length p → a ≡ validHeader p 0 → a ≡ false → b ≡ validHeader p 256 → b ≡ true
-      → t ≡ openedBy (pageAt p 256) (length p) → t ≡ opened p
-  unfolding opened openTests first answer differing shapeIn openedBy
-  open-copy a b t l e h f k g = rw (le-ltb (length p) 512 l, ← e, h, ← f, k) g
+    pub open-header : (t : Opened) → a ≡ true → b ≡ false → t ≡ openedBy (pageAt p 0) (length p) → t ≡ opened p
+    unfolding opened openTests first answer differing shapeIn openedBy
+    open-header t h k g = rw (le-ltb (length p) 512 l, ← e, h, ← f, k) g
+
+    pub open-copy : (t : Opened) → a ≡ false → b ≡ true → t ≡ openedBy (pageAt p 256) (length p) → t ≡ opened p
+    unfolding opened openTests first answer differing shapeIn openedBy
+    open-copy t h k g = rw (le-ltb (length p) 512 l, ← e, h, ← f, k) g
+
+    pub open-neither : a ≡ false → b ≡ false → Refused 3 ≡ opened p
+    unfolding opened openTests first answer
+    open-neither h k = rw (le-ltb (length p) 512 l, ← e, h, ← f, k)
 
 -- ---- what a caller knows of an opened pool
 

@@ -1,10 +1,10 @@
 // The pool's shape (01, "The pool's bytes"), its constants and checked constructor; and a pool opened.
 ghost use mathlib.Core.Path.{_≡_};
-ghost use mathlib.Core.Bool.{true};
+ghost use mathlib.Core.Bool.{true, false};
 ghost use Prim.Native.Nat.{_*_, _≤_, _<_};
 ghost use lib.ListN.{length};
 ghost use Rattle.rules.specs.Shape.{bodyLimit, entryLimit, pageSize, poolSize, stagingSize, zoneAt, zoneCells};
-ghost use Rattle.rules.specs.Header.{headerOk, headerShape, validHeader};
+ghost use Rattle.rules.specs.Header.{headerOk, headerShape, pageAt, same};
 ghost use Rattle.layout.specs.Reading.{InRange, made, opened, openedBy, shapeFrom, shapeOf};
 
 pub struct Shape {
@@ -95,18 +95,32 @@ fn open_by(h: &[u8], n: usize) -> Opened
     Opened::Refused(2)
 }
 
-// A pool opened by its valid header: refusal 4 if the copy is valid and different.
-fn open_first(pool: &[u8]) -> Opened
-    requires { ⌜ (2 * pageSize ≤ length (now pool)) × (validHeader (now pool) 0 ≡ true) ⌝ }
+// A pool whose copy equals its header, so that the letters of both are judged with those of one (01): both are valid or neither, and 4 cannot be.
+fn open_one(pool: &[u8]) -> Opened
+    requires { ⌜ (2 * pageSize ≤ length (now pool)) × (same (pageAt (now pool) 0) (pageAt (now pool) pageSize) ≡ true) ⌝ }
     ensures { λ r. ⌜ r ≡ opened (now (pool .entry)) ⌝ }
 {
-    if header::valid(&pool[256..512]) {
-        if !check::same(&pool[0..256], &pool[256..512]) {
+    if header::valid(&pool[0..256]) {
+        return open_by(&pool[0..256], pool.len());
+    }
+    Opened::Refused(3)
+}
+
+// A pool whose copy is different: refusal 4 if both are valid.
+fn open_two(pool: &[u8]) -> Opened
+    requires { ⌜ (2 * pageSize ≤ length (now pool)) × (same (pageAt (now pool) 0) (pageAt (now pool) pageSize) ≡ false) ⌝ }
+    ensures { λ r. ⌜ r ≡ opened (now (pool .entry)) ⌝ }
+{
+    if header::valid(&pool[0..256]) {
+        if header::valid(&pool[256..512]) {
             return Opened::Refused(4);
         }
         return open_by(&pool[0..256], pool.len());
     }
-    open_by(&pool[0..256], pool.len())
+    if header::valid(&pool[256..512]) {
+        return open_by(&pool[256..512], pool.len());
+    }
+    Opened::Refused(3)
 }
 
 // The pool's shape, or the first of refusals 2, 3, 4, 2.
@@ -116,11 +130,8 @@ pub fn open(pool: &[u8]) -> Opened
     if pool.len() < 2 * Shape::PAGE {
         return Opened::Refused(2);
     }
-    if header::valid(&pool[0..256]) {
-        return open_first(pool);
+    if header::pages_same(&pool[0..256], &pool[256..512]) {
+        return open_one(pool);
     }
-    if header::valid(&pool[256..512]) {
-        return open_by(&pool[256..512], pool.len());
-    }
-    Opened::Refused(3)
+    open_two(pool)
 }

@@ -2,19 +2,25 @@
 use mathlib.Core.Path.{_≡_, refl, sym, ap, ap₂, _∙_}
 use mathlib.Core.Bool.{Bool, true, false, not, _&&_}
 use mathlib.Core.List.{List, [], _∷_}
-use Prim.Native.Nat.{ℕ, suc, _+_, _*_, _-_, _/_, _%_, _<_, _≤_}
+use Prim.Native.Nat.{ℕ, zero, suc, _+_, _*_, _-_, _/_, _%_, _<_, _≤_}
+use native.Mathlib.Nat.{div-div-eq-div-mul, mul-comm, mul-le-mul-right}
+use native.Mathlib.Numerals.{add-one}
 use native.Mathlib.Omega.{arith}
 use lib.Dec.{eqb, leb, ltb}
-use borrow.Author.Tests.{eq-eqb, eqb-true, ne-eqb, le-leb, lt-leb, leb-true, ltb-true, lt-ltb, le-ltb, not-true, not-false}
+use lib.ListN.{length, getD, set, length-set}
+use lib.Seq.{getD-set-same, getD-set-other}
+use borrow.Author.Tests.{eq-eqb, eqb-true, ne-eqb, le-leb, leb-true, ltb-true, lt-ltb, not-true, not-false}
 use Rattle.rules.specs.Words.{word}
-use Rattle.rules.specs.Shape.{Shape as PoolShape, poolSize, row, zonesAt}
+use Rattle.rules.specs.Shape.{Shape as PoolShape, byteAt, poolSize, row, zone, zoneAt, zoneCells, zonesAt}
 use Rattle.rules.specs.Check.{check}
-use Rattle.rules.specs.Staging.{Store, entriesAt, entryBytes, goodTargets, noneAt}
-use Rattle.rules.proofs.Bool.{and-split}
+use Rattle.rules.specs.Staging.{Store, entriesAt, entryBytes, goodTargets}
+use Rattle.rules.proofs.Bool.{and-split, split}
+use Rattle.rules.proofs.Shape.{Good, cell-self, off-lt, row-in-zone, zone-below, zone-cells, zone-end, zone-low}
 use Rattle.words.specs.Loaded.{Loaded}
 use Rattle.layout.specs.declared.Shape.{Shape}
-use Rattle.layout.specs.Reading.{shapeOf}
-use Rattle.log.specs.Targets.{absentFrom, allFit, ascending, checkOf, fits, read}
+use Rattle.layout.specs.Reading.{InRange, shapeOf}
+use Rattle.layout.proofs.Range.{shape-good}
+use Rattle.log.specs.Targets.{DataRows, RowsFor, absentFrom, allFit, checkOf, fits, markOf, read}
 
 abbrev pub entry : List ℕ → ℕ → Store
 entry p a = record { at = word p a; val = word p (a + 8) }
@@ -75,27 +81,6 @@ module _ (p : List ℕ) (at n i t : ℕ) (g : Bool) (e : absentFrom t (read p (a
   unfolding absentFrom
   absent-end h = sym (ap (absentFrom t) (read-none p at n i h)) ∙ e
 
--- ---- the targets fit and ascend
-
-module _ (sh : PoolShape) (p : List ℕ) (at n i low : ℕ) (g : Bool) (e : ascending sh low (read p (at + 16 * i) (n - i)) ≡ g) where
-  ascend-next : (u : ℕ) → i < n → Loaded 8 p (at + 16 * i) u → (leb low u && (fits sh u && ascending sh (u + 1) (read p (at + 16 * (i + 1)) (n - (i + 1))))) ≡ g
-  unfolding ascending
-  ascend-next u h w = rw (loaded-word w) (sym (ap (ascending sh low) (read-next p at n i h)) ∙ e)
-
-  pub ascend-low : (u : ℕ) → i < n → Loaded 8 p (at + 16 * i) u → u < low → false ≡ g
-  ascend-low u h w k = rw (lt-leb low u k) at (ascend-next u h w)
-
-  pub ascend-bad : (u : ℕ) (r : Bool) → i < n → Loaded 8 p (at + 16 * i) u → low ≤ u → r ≡ fits sh u → not r ≡ true → false ≡ g
-  ascend-bad u r h w k f z = rw (le-leb low u k, ← f, not-true r z) at (ascend-next u h w)
-
-  pub ascend-on : (u : ℕ) (r : Bool) → i < n → Loaded 8 p (at + 16 * i) u → low ≤ u → r ≡ fits sh u → not r ≡ false
-      → ascending sh (u + 1) (read p (at + 16 * (i + 1)) (n - (i + 1))) ≡ g
-  ascend-on u r h w k f z = rw (le-leb low u k, ← f, not-false r z) at (ascend-next u h w)
-
-  pub ascend-end : n ≤ i → true ≡ g
-  unfolding ascending
-  ascend-end h = sym (ap (ascending sh low) (read-none p at n i h)) ∙ e
-
 -- ---- a target that fits
 
 pub fits-row : (sh : PoolShape) (t : ℕ) → fits sh t ≡ true → (t % 8 ≡ 0) × (zonesAt sh ≤ t) × (t < poolSize sh) × (row sh t < sh .rows)
@@ -106,66 +91,173 @@ fits-row sh t e =
     let d = and-split (ltb t (poolSize sh)) _ (b .1) in
     (eqb-true _ _ (a .0), leb-true _ _ (b .0), ltb-true _ _ (d .0), ltb-true _ _ (d .1))
 
-pub fits-below : (sh : PoolShape) (t : ℕ) (r : Bool) → r ≡ fits sh t → not r ≡ false → t < poolSize sh
-fits-below sh t r f z = fits-row sh t (sym f ∙ not-false r z) .2
+-- ---- the data rows of a zone
+
+module _ (sh : PoolShape) (g : Good sh) (z : ℕ) (h : z < sh .zones) where
+  rows-end : zoneAt sh z + 64 * zoneCells sh ≤ poolSize sh
+  unfolding zoneAt
+  rows-end =
+      let e = zone-end sh g in
+      let c = zone-cells sh g in
+      let k : z + 1 ≤ sh .zones = omega arith in
+      let m = mul-le-mul-right ((sh .rows + 1) * (sh .cols * sh .page)) k in
+      omega arith
+
+  rows-fit : (u : ℕ) → zoneAt sh z ≤ u → u < zoneAt sh z + 64 * zoneCells sh → u % 8 ≡ 0 → fits sh u ≡ true
+  unfolding fits
+  rows-fit u l k e =
+      let i : u - zoneAt sh z < 64 * zoneCells sh = omega arith in
+      let r = row-in-zone sh g z (u - zoneAt sh z) i in
+      let q : zoneAt sh z + (u - zoneAt sh z) ≡ u = omega arith in
+      let w : row sh u < sh .rows = rw q at r in
+      let a : zonesAt sh ≤ u = let y = zone-low sh g z in omega arith in
+      let b : u < poolSize sh = let y = rows-end in omega arith in
+      rw (eq-eqb (u % 8) 0 e, le-leb (zonesAt sh) u a, lt-ltb u (poolSize sh) b, lt-ltb (row sh u) (sh .rows) w)
+
+-- a place of a data row lies in those of its zone
+row-around : (sh : PoolShape) → Good sh → (t : ℕ) → zonesAt sh ≤ t → row sh t < sh .rows → (zoneAt sh (zone sh t) ≤ t) × (t < zoneAt sh (zone sh t) + 64 * zoneCells sh)
+unfolding zoneAt byteAt
+row-around sh g t l r =
+    let e = cell-self sh g t l in
+    let o = off-lt sh g t in
+    let c = zone-cells sh g in
+    let k : row sh t + 1 ≤ sh .rows = omega arith in
+    let m = mul-le-mul-right (sh .cols * sh .page) k in
+    (omega arith, omega arith)
 
 module _ (s : Shape) (t : ℕ) where
-  pub fit-odd : (t % 8 ≡ 0 → ⊥) → false ≡ fits (shapeOf s) t
-  unfolding fits
-  fit-odd h = rw (ne-eqb (t % 8) 0 h)
+  none-for : (fits (shapeOf s) t ≡ true → ⊥) → RowsFor (shapeOf s) t 0 0
+  none-for f = record { rows = record { inside = λ u l h e. absurd (omega arith) }; around = λ e. absurd (f e) }
 
-  pub fit-low : t % 8 ≡ 0 → t < 4608 → false ≡ fits (shapeOf s) t
-  unfolding fits
-  fit-low h l = rw (eq-eqb (t % 8) 0 h, lt-leb 4608 t l)
+  pub rows-low : t < 4608 → RowsFor (shapeOf s) t 0 0
+  rows-low h = none-for (λ e. let r = fits-row (shapeOf s) t e in omega arith)
 
-  pub fit-high : (z : ℕ) → t % 8 ≡ 0 → 4608 ≤ t → z ≡ poolSize (shapeOf s) → z ≤ t → false ≡ fits (shapeOf s) t
-  unfolding fits
-  fit-high z h l f k = rw (eq-eqb (t % 8) 0 h, le-leb 4608 t l, ← f, le-ltb t z k)
+  pub rows-high : (z : ℕ) → z ≡ poolSize (shapeOf s) → z ≤ t → RowsFor (shapeOf s) t 0 0
+  rows-high z f h = none-for (λ e. let r = fits-row (shapeOf s) t e in omega arith)
 
-  pub fit-row : (z : ℕ) → t % 8 ≡ 0 → 4608 ≤ t → z ≡ poolSize (shapeOf s) → t < z
-      → ltb ((t - 4608) / (s .cols * 256) % (s .rows + 1)) (s .rows) ≡ fits (shapeOf s) t
-  unfolding fits row
-  fit-row z h l f k = rw (eq-eqb (t % 8) 0 h, le-leb 4608 t l, ← f, lt-ltb t z k)
+  module _ (g : InRange (shapeOf s)) (z : ℕ) (l : 4608 ≤ t) (f : z ≡ poolSize (shapeOf s)) (h : t < z) where
+    zone-is : (t - 4608) / ((s .rows + 1) * (s .cols * 256)) ≡ zone (shapeOf s) t
+    unfolding zone
+    zone-is = ap (λ (x : ℕ). (t - 4608) / x) (mul-comm (s .rows + 1) (s .cols * 256)) ∙ sym (div-div-eq-div-mul (t - 4608) (s .cols * 256) (s .rows + 1))
 
--- ---- each against those after it
+    zone-inside : zone (shapeOf s) t < s .zones
+    zone-inside = zone-below (shapeOf s) (shape-good s g) t l (omega arith)
 
-module _ (sh : PoolShape) (p : List ℕ) (at n i : ℕ) (g : Bool) (e : allFit sh (read p (at + 16 * i) (n - i)) ≡ g) where
-  all-next : (u : ℕ) → i < n → Loaded 8 p (at + 16 * i) u
-      → (fits sh u && (absentFrom u (read p (at + 16 * (i + 1)) (n - (i + 1))) && allFit sh (read p (at + 16 * (i + 1)) (n - (i + 1))))) ≡ g
+    pub zone-fits : (t - 4608) / ((s .rows + 1) * (s .cols * 256)) ≤ s .zones
+    zone-fits = let e = zone-is in let k = zone-inside in omega arith
+
+    pub rows-zone : (a b n : ℕ) → a ≡ zoneAt (shapeOf s) ((t - 4608) / ((s .rows + 1) * (s .cols * 256))) → n ≡ zoneCells (shapeOf s) → b ≡ a + 64 * n
+        → RowsFor (shapeOf s) t a b
+    rows-zone a b n p q w =
+        let x : a ≡ zoneAt (shapeOf s) (zone (shapeOf s) t) = p ∙ ap (zoneAt (shapeOf s)) zone-is in
+        let y : b ≡ zoneAt (shapeOf s) (zone (shapeOf s) t) + 64 * zoneCells (shapeOf s) = omega arith in
+        rw (x, y) (record {
+          rows = record { inside = rows-fit (shapeOf s) (shape-good s g) (zone (shapeOf s) t) zone-inside };
+          around = λ e. row-around (shapeOf s) (shape-good s g) t l (fits-row (shapeOf s) t e .3);
+        })
+
+-- where they are at hand, t fits if it is a multiple of 8 in them
+pub rows-judge : (sh : PoolShape) (t low high : ℕ) → RowsFor sh t low high → (eqb (t % 8) 0 && (leb low t && ltb t high)) ≡ fits sh t
+rows-judge sh t low high r = sym (split (fits sh t) (λ e. e ∙ sym (yes e)) (λ e. e ∙ sym (other e)))
+  where
+    yes : fits sh t ≡ true → (eqb (t % 8) 0 && (leb low t && ltb t high)) ≡ true
+    yes e = let a = r .around e in rw (eq-eqb (t % 8) 0 (fits-row sh t e .0), le-leb low t (a .0), lt-ltb t high (a .1))
+
+    other : fits sh t ≡ false → (eqb (t % 8) 0 && (leb low t && ltb t high)) ≡ false
+    other e =
+        split (eqb (t % 8) 0 && (leb low t && ltb t high))
+        (λ w. let a = and-split (eqb (t % 8) 0) _ w in let b = and-split (leb low t) _ (a .1) in
+        w ∙ sym (r .rows .inside t (leb-true low t (b .0)) (ltb-true t high (b .1)) (eqb-true (t % 8) 0 (a .0))) ∙ e)
+        (λ w. w)
+
+pub rows-here : (sh : PoolShape) (t low high : ℕ) → DataRows sh low high → low ≤ t → t < high → RowsFor sh t low high
+rows-here sh t low high r l h = record { rows = r; around = λ e. (l, h) }
+
+pub rows-none : (sh : PoolShape) → DataRows sh 0 0
+rows-none sh = record { inside = λ u l h e. absurd (omega arith) }
+
+-- ---- entries judged from the last to the first
+
+-- those from number i on fit and none repeats; a target whose mark is 0 is none of theirs
+pub record Passed (sh : PoolShape) (p : List ℕ) (at n i : ℕ) (marks : List ℕ) (low high : ℕ) : Type 0 where
+  pub inside : i ≤ n
+  pub size : length marks ≡ 256
+  pub rows : DataRows sh low high
+  pub unmarked : (t : ℕ) → getD marks (markOf t) 0 ≡ 0 → absentFrom t (read p (at + 16 * i) (n - i)) ≡ true
+  pub fit : allFit sh (read p (at + 16 * i) (n - i)) ≡ true
+
+module _ (sh : PoolShape) (p : List ℕ) (at n : ℕ) where
+  -- if those from number i on do not all fit, nor do all
+  fit-part : (i : ℕ) → i ≤ n → allFit sh (read p (at + 16 * i) (n - i)) ≡ false → allFit sh (read p at n) ≡ false
   unfolding allFit fits absentFrom
-  all-next u h w = rw (loaded-word w) (sym (ap (allFit sh) (read-next p at n i h)) ∙ e)
+  fit-part zero h e = sym (ap (allFit sh) (read-all p at n)) ∙ e
+  fit-part (suc i) h e =
+      let k : suc i ≡ i + 1 = sym (add-one i) in
+      let d : allFit sh (read p (at + 16 * (i + 1)) (n - (i + 1))) ≡ false = rw k at e in
+      fit-part i (omega arith) (ap (allFit sh) (read-next p at n i (omega arith)) ∙ none (fits sh (word p (at + 16 * i))) (absentFrom (word p (at + 16 * i)) (read p (at + 16 * (i + 1)) (n - (i + 1)))) _ d)
+    where
+      none : (a b x : Bool) → x ≡ false → (a && (b && x)) ≡ false
+      none true true x z = z
+      none true false x z = refl
+      none false b x z = refl
 
-  pub all-bad : (u : ℕ) (r : Bool) → i < n → Loaded 8 p (at + 16 * i) u → r ≡ fits sh u → not r ≡ true → false ≡ g
-  all-bad u r h w f z = rw (← f, not-true r z) at (all-next u h w)
+  pub passed-start : (marks : List ℕ) → length marks ≡ 256 → Passed sh p at n n marks 0 0
+  unfolding allFit absentFrom
+  passed-start marks m =
+      let e = read-none p at n n (omega arith) in
+      record { inside = omega arith; size = m; rows = rows-none sh; unmarked = λ t z. ap (absentFrom t) e; fit = ap (allFit sh) e }
 
-  pub all-twice : (u : ℕ) (r q : Bool) → i < n → Loaded 8 p (at + 16 * i) u → r ≡ fits sh u → not r ≡ false
-      → q ≡ absentFrom u (read p (at + 16 * (i + 1)) (n - (i + 1))) → not q ≡ true → false ≡ g
-  all-twice u r q h w f z v k = rw (← f, not-false r z, ← v, not-true q k) at (all-next u h w)
+  pub passed-end : (i : ℕ) (marks : List ℕ) (low high : ℕ) → Passed sh p at n i marks low high → i ≡ 0 → true ≡ allFit sh (read p at n)
+  passed-end i marks low high h z = sym (sym (ap (allFit sh) (read-all p at n)) ∙ (rw z at (h .fit)))
 
-  pub all-on : (u : ℕ) (r q : Bool) → i < n → Loaded 8 p (at + 16 * i) u → r ≡ fits sh u → not r ≡ false
-      → q ≡ absentFrom u (read p (at + 16 * (i + 1)) (n - (i + 1))) → not q ≡ false → allFit sh (read p (at + 16 * (i + 1)) (n - (i + 1))) ≡ g
-  all-on u r q h w f z v k = rw (← f, not-false r z, ← v, not-false q k) at (all-next u h w)
+  -- entry number i - 1, with the target u
+  module _ (i : ℕ) (marks : List ℕ) (low high : ℕ) (h : Passed sh p at n i marks low high) (o : 0 < i) (u : ℕ) (w : Loaded 8 p (at + 16 * (i - 1)) u) where
+    before : read p (at + 16 * (i - 1)) (n - (i - 1)) ≡ record { at = u; val = word p (at + 16 * (i - 1) + 8) } ∷ read p (at + 16 * i) (n - i)
+    before =
+        let l = h .inside in
+        let e : i - 1 + 1 ≡ i = omega arith in
+        rw (loaded-word w) (rw e at (read-next p at n (i - 1) (omega arith)))
 
-  pub all-end : n ≤ i → true ≡ g
-  unfolding allFit
-  all-end h = sym (ap (allFit sh) (read-none p at n i h)) ∙ e
+    fit-before : allFit sh (read p (at + 16 * (i - 1)) (n - (i - 1))) ≡ (fits sh u && absentFrom u (read p (at + 16 * i) (n - i)))
+    unfolding allFit fits absentFrom
+    fit-before = ap (allFit sh) before ∙ whole (fits sh u) (absentFrom u (read p (at + 16 * i) (n - i))) _ (h .fit)
+      where
+        whole : (a b x : Bool) → x ≡ true → (a && (b && x)) ≡ (a && b)
+        whole true true x z = z
+        whole true false x z = refl
+        whole false b x z = refl
 
--- ---- targets that ascend do not repeat
+    pub passed-mark : (k : ℕ) → k ≡ markOf u → getD marks k 0 ≡ 0 → absentFrom u (read p (at + 16 * i) (n - i)) ≡ true
+    passed-mark k b x = h .unmarked u (rw b at x)
 
-ascend-absent : (sh : PoolShape) (low t : ℕ) (es : List Store) → t < low → ascending sh low es ≡ true → noneAt t es ≡ true
-unfolding ascending
-ascend-absent sh low t [] h e = refl
-ascend-absent sh low t (x ∷ es) h e =
-    let a = and-split (leb low (x .at)) _ e in
-    let b = leb-true low (x .at) (a .0) in
-    rw (ne-eqb t (x .at) (λ (q : t ≡ x .at). omega arith)) (ascend-absent sh (x .at + 1) t es (omega arith) (and-split (fits sh (x .at)) _ (a .1) .1))
+    part-of : allFit sh (read p (at + 16 * (i - 1)) (n - (i - 1))) ≡ false → false ≡ allFit sh (read p at n)
+    part-of e = let l = h .inside in sym (fit-part (i - 1) (omega arith) e)
 
-ascend-fit : (sh : PoolShape) (low : ℕ) (es : List Store) → ascending sh low es ≡ true → allFit sh es ≡ true
-unfolding ascending allFit fits
-ascend-fit sh low [] e = refl
-ascend-fit sh low (x ∷ es) e =
-    let a = and-split (fits sh (x .at)) _ (and-split (leb low (x .at)) _ e .1) in
-    rw (a .0, ascend-absent sh (x .at + 1) (x .at) es (omega arith) (a .1)) (ascend-fit sh (x .at + 1) es (a .1))
+    module _ (low′ high′ : ℕ) (g : RowsFor sh u low′ high′) (r : Bool) (f : r ≡ (eqb (u % 8) 0 && (leb low′ u && ltb u high′))) where
+      judged : r ≡ fits sh u
+      judged = f ∙ rows-judge sh u low′ high′ g
 
-pub ascend-all : (sh : PoolShape) (es : List Store) (r : Bool) → r ≡ ascending sh 0 es → r ≡ true → true ≡ allFit sh es
-ascend-all sh es r e z = sym (ascend-fit sh 0 es (sym e ∙ z))
+      pub passed-bad : not r ≡ true → false ≡ allFit sh (read p at n)
+      passed-bad z = part-of (fit-before ∙ rw (← judged, not-true r z))
+
+      module _ (z : not r ≡ false) (q : Bool) (v : q ≡ absentFrom u (read p (at + 16 * i) (n - i))) where
+        pub passed-twice : not q ≡ true → false ≡ allFit sh (read p at n)
+        passed-twice y = part-of (fit-before ∙ rw (← judged, ← v, not-false r z, not-true q y))
+
+        pub passed-on : (k : ℕ) → k ≡ markOf u → k < 256 → not q ≡ false → Passed sh p at n (i - 1) (set marks k 1) low′ high′
+        unfolding absentFrom
+        passed-on k b j y = record {
+          inside = let l = h .inside in omega arith;
+          size = length-set marks k 1 ∙ h .size;
+          rows = g .rows;
+          unmarked = λ t x. ap (absentFrom t) before ∙ other t x;
+          fit = fit-before ∙ rw (← judged, ← v, not-false r z, not-false q y);
+        }
+          where
+            other : (t : ℕ) → getD (set marks k 1) (markOf t) 0 ≡ 0 → (not (eqb t u) && absentFrom t (read p (at + 16 * i) (n - i))) ≡ true
+            other t x =
+                let m = h .size in
+                let s : k < length marks = omega arith in
+                let d : (markOf t ≡ k → ⊥) = λ e. let c = rw (e, getD-set-same marks k 1 0 s) at x in omega arith in
+                let a : getD marks (markOf t) 0 ≡ 0 = sym (getD-set-other marks k (markOf t) 1 0 d) ∙ x in
+                rw (ne-eqb t u (λ e. d (ap markOf e ∙ sym b))) (h .unmarked t a)

@@ -1,9 +1,9 @@
 -- Entries and their targets, as the code reads and judges them: names for 01's definitions that a proof opens only where it must.
 -- Assumes nothing.
-use Prim.Native.Nat.{ℕ, _+_}
-use mathlib.Core.List.{List, [], _∷_}
-use mathlib.Core.Bool.{Bool, true, _&&_}
-use lib.Dec.{leb}
+use Prim.Native.Nat.{ℕ, _*_, _/_, _%_, _≤_, _<_}
+use mathlib.Core.Path.{_≡_}
+use mathlib.Core.List.{List}
+use mathlib.Core.Bool.{Bool, true}
 use Rattle.rules.specs.Check.{check}
 use Rattle.rules.specs.Shape.{Shape}
 use Rattle.rules.specs.Staging.{Store, entriesAt, entryBytes, goodTarget, goodTargets, noneAt}
@@ -26,7 +26,15 @@ absentFrom t es = noneAt t es
 unfoldable pub allFit : Shape → List Store → Bool
 allFit sh es = goodTargets sh es
 
--- The targets fit, the first is at least low, and each is above the one before.
-unfoldable pub ascending : Shape → ℕ → List Store → Bool
-ascending sh low [] = true
-ascending sh low (e ∷ es) = leb low (e .at) && (fits sh (e .at) && ascending sh (e .at + 1) es)
+-- Each place from low up to high lies in a data row: a multiple of 8 there fits.
+pub record DataRows (sh : Shape) (low high : ℕ) : Type 0 where
+  pub inside : (u : ℕ) → low ≤ u → u < high → u % 8 ≡ 0 → fits sh u ≡ true
+
+-- Moreover, if t fits, it is one of them.
+pub record RowsFor (sh : Shape) (t low high : ℕ) : Type 0 where
+  pub rows : DataRows sh low high
+  pub around : fits sh t ≡ true → (low ≤ t) × (t < high)
+
+-- The mark that stands for the target t, of 256.
+unfoldable pub markOf : ℕ → ℕ
+markOf t = t / 8 % 65536 * 40503 / 256 % 256

@@ -1,29 +1,65 @@
 // Entries judged, the seal over them, and whether a log is valid (01, "Commit, cut, recovery"): the same for staging and for a log.
 ghost use mathlib.Core.Path.{_≡_};
-ghost use Prim.Native.Nat.{_+_, _*_, _^_, _≤_, _<_};
+ghost use mathlib.Core.Bool.{true, _&&_};
+ghost use Prim.Native.Nat.{_+_, _*_, _%_, _^_, _≤_, _<_};
+ghost use lib.Dec.{eqb, leb, ltb};
 ghost use lib.ListN.{length};
 ghost use Rattle.rules.specs.Seals.{unsealed};
 ghost use Rattle.layout.specs.Reading.{InRange, shapeOf};
 ghost use Rattle.powercut.specs.Log.{countIn, sealOf, valid as validLog};
-ghost use Rattle.log.specs.Targets.{absentFrom, allFit, ascending, checkOf, fits, read};
+ghost use Rattle.log.specs.Targets.{DataRows, RowsFor, absentFrom, allFit, checkOf, markOf, read};
 use layout::Shape;
 
-// Whether `t` is a multiple of 8 inside a data row.
-pub fn target_fits(s: Shape, t: u64) -> bool
+// Places from `low` up to `high`: data rows of one zone, or none.
+struct Rows {
+    low: u64,
+    high: u64,
+}
+
+// The data rows of the zone that `t` lies in; none where it lies in no zone.
+fn zone_rows(s: Shape, t: u64) -> Rows
     requires { ⌜ InRange (shapeOf s) ⌝ }
-    ensures { λ r. ⌜ r ≡ fits (shapeOf s) t ⌝ }
+    ensures { λ r. ⌜ RowsFor (shapeOf s) t (r .low) (r .high) ⌝ }
 {
     let a = t as usize;
-    if a % 8 != 0 {
-        return false;
-    }
     if a < 18 * Shape::PAGE {
-        return false;
+        return Rows { low: 0, high: 0 };
     }
     if s.size() <= a {
+        return Rows { low: 0, high: 0 };
+    }
+    let z = (a - 18 * Shape::PAGE) / ((s.rows + 1) * (s.cols * Shape::PAGE));
+    let low = s.zone_at(z);
+    Rows {
+        low: low as u64,
+        high: (low + 64 * s.cells()) as u64,
+    }
+}
+
+// `rows` if `t` lies there, so that targets of one zone cost one division; else those of its zone.
+fn rows_for(s: Shape, rows: Rows, t: u64) -> Rows
+    requires { ⌜ (InRange (shapeOf s)) × (DataRows (shapeOf s) (rows .low) (rows .high)) ⌝ }
+    ensures { λ r. ⌜ RowsFor (shapeOf s) t (r .low) (r .high) ⌝ }
+{
+    if rows.low <= t {
+        if t < rows.high {
+            return rows;
+        }
+    }
+    zone_rows(s, t)
+}
+
+// Whether `t` is a multiple of 8 in `rows`.
+fn in_rows(rows: Rows, t: u64) -> bool
+    ensures { λ r. ⌜ r ≡ (eqb (t % 8) 0 && (leb (rows .low) t && ltb t (rows .high))) ⌝ }
+{
+    if t % 8 != 0 {
         return false;
     }
-    (a - 18 * Shape::PAGE) / (s.cols * Shape::PAGE) % (s.rows + 1) < s.rows
+    if t < rows.low {
+        return false;
+    }
+    t < rows.high
 }
 
 // Whether none of the `n` entries at `at` has the target `t`.
@@ -41,55 +77,47 @@ fn absent(p: &[u8], at: usize, n: usize, t: u64) -> bool
     true
 }
 
-// One pass: the targets fit and ascend.
-fn ascend(s: Shape, p: &[u8], at: usize, n: usize) -> bool
-    requires { ⌜ (InRange (shapeOf s)) × (at + 16 * n ≤ length (now p)) ⌝ }
-    ensures { λ r. ⌜ r ≡ ascending (shapeOf s) 0 (read (now (p .entry)) at n) ⌝ }
+// The same where a mark of 0 already says that none has it.
+fn absent_marked(p: &[u8], at: usize, n: usize, t: u64, mark: u8) -> bool
+    requires { ⌜ (at + 16 * n ≤ length (now p)) × (mark ≡ 0 → absentFrom t (read (now p) at n) ≡ true) ⌝ }
+    ensures { λ r. ⌜ r ≡ absentFrom t (read (now (p .entry)) at n) ⌝ }
 {
-    let mut low: u64 = 0;
-    let mut i = 0;
-    while i < n {
-        let t = words::load64(p, at + 16 * i);
-        if t < low {
-            return false;
-        }
-        if !target_fits(s, t) {
-            return false;
-        }
-        low = t + 1;
-        i += 1;
+    if mark == 0 {
+        return true;
     }
-    true
+    absent(p, at, n, t)
 }
 
-// Each target fits and is not among those after it.
-fn fit_once(s: Shape, p: &[u8], at: usize, n: usize) -> bool
-    requires { ⌜ (InRange (shapeOf s)) × (at + 16 * n ≤ length (now p)) ⌝ }
-    ensures { λ r. ⌜ r ≡ allFit (shapeOf s) (read (now (p .entry)) at n) ⌝ }
+// The mark of the target `t`, by Fibonacci hashing of its word's number: words in a row and heads at even distances seldom share one.
+fn mark_of(t: u64) -> usize
+    ensures { λ r. ⌜ (r ≡ markOf t) × (r < 256) ⌝ }
 {
-    let mut i = 0;
-    while i < n {
-        let t = words::load64(p, at + 16 * i);
-        if !target_fits(s, t) {
-            return false;
-        }
-        i += 1;
-        if !absent(p, at + 16 * i, n - i, t) {
-            return false;
-        }
-    }
-    true
+    (t / 8 % 65536 * 40503 / 256 % 256) as usize
 }
 
-// Whether the targets of the `n` entries at `at` fit and none repeats: one pass where they ascend, else each against each.
+// Whether the targets of the `n` entries at `at` fit and none repeats. From the last to the first: each entry passed has set its target's
+// mark, so that the entries after one are searched only where its mark is set.
 pub fn targets_fit(s: Shape, p: &[u8], at: usize, n: usize) -> bool
     requires { ⌜ (InRange (shapeOf s)) × (at + 16 * n ≤ length (now p)) ⌝ }
     ensures { λ r. ⌜ r ≡ allFit (shapeOf s) (read (now (p .entry)) at n) ⌝ }
 {
-    if ascend(s, p, at, n) {
-        return true;
+    let mut marks = [0u8; 256];
+    let mut rows = Rows { low: 0, high: 0 };
+    let mut i = n;
+    while i > 0 {
+        let t = words::load64(p, at + 16 * (i - 1));
+        rows = rows_for(s, rows, t);
+        if !in_rows(rows, t) {
+            return false;
+        }
+        let k = mark_of(t);
+        if !absent_marked(p, at + 16 * i, n - i, t, marks[k]) {
+            return false;
+        }
+        marks[k] = 1;
+        i -= 1;
     }
-    fit_once(s, p, at, n)
+    true
 }
 
 // The check of the `n` entries at `at`.

@@ -1,20 +1,116 @@
--- `log::targets_fit` meets its contract. Assumes nothing.
-use Rattle.log.proofs.Targets.{ascend-all}
+-- `log::targets_fit` meets its contract. The invariant: the entries from `i` on fit, none repeats, and their marks are set. Assumes nothing.
+use mathlib.Core.Path.{refl}
+use Rattle.layout.specs.Reading.{shapeOf}
+use Rattle.log.proofs.Targets.{Passed, passed-bad, passed-end, passed-mark, passed-on, passed-start, passed-twice}
 use borrow.Author.Needs.{needs}
+use native.Mathlib.Omega.{arith}
 use Rattle.log.proofs.targets_fit.Statement.{statement}
 use Rattle.log.proofs.targets_fit.Tie as tie
 
-ascend-requires : tie.Need-ascend-requires
-ascend-requires c κs = search needs
+abbrev Inv-loop : tie.InvT-loop
+Inv-loop s p at n marks₀ rows₀ i₀ marks rows i = Passed (shapeOf s) p at n i marks (rows .low) (rows .high)
 
-returns : tie.Need-returns
-returns c = search (needs, ascend-all)
+abbrev μ-loop : tie.MeasureT-loop
+μ-loop s p at n marks₀ rows₀ i₀ marks rows i = i
 
-fit-once-requires : tie.Need-fit-once-requires
-fit-once-requires c κs = search needs
+loop-holds : tie.Need-loop-holds Inv-loop μ-loop
+loop-holds c = let a = c .before .args in passed-start (shapeOf (a .s)) (a .p .now) (a .at) (a .n) _ refl
 
-returns-2 : tie.Need-returns-2
-returns-2 c = search needs
+sub-load64 : tie.Need-sub-load64 Inv-loop μ-loop
+sub-load64 c = search needs
+
+mul-load64 : tie.Need-mul-load64 Inv-loop μ-loop
+mul-load64 c = search needs
+
+add-load64 : tie.Need-add-load64 Inv-loop μ-loop
+add-load64 c = search needs
+
+load64-requires : tie.Need-load64-requires Inv-loop μ-loop
+load64-requires c κs = search needs
+
+rows-for-requires : tie.Need-rows-for-requires Inv-loop μ-loop
+rows-for-requires c κs = (c .before .before .before .before .pre .0, c .before .before .loop .inv .rows)
+
+in-rows-requires : tie.Need-in-rows-requires Inv-loop μ-loop
+in-rows-requires c κs = search needs
+
+returns : tie.Need-returns Inv-loop μ-loop
+returns c =
+    let a = c .before .before .before .before .before .before .before .args in
+    let l = c .before .before .before .before .before .loop in
+    passed-bad (shapeOf (a .s)) (a .p .now) (a .at) (a .n) (l .i) (l .marks) _ _ (l .inv) (omega arith) _ (c .before .before .before .load64 .ensures) _ _ (c .before .before .rows-for .ensures) _ (c .before .in-rows .ensures) (c .if1 .taken)
+
+mark-of-requires : tie.Need-mark-of-requires Inv-loop μ-loop
+mark-of-requires c κs = search needs
+
+mul-absent-marked : tie.Need-mul-absent-marked Inv-loop μ-loop
+mul-absent-marked c = search needs
+
+add-absent-marked : tie.Need-add-absent-marked Inv-loop μ-loop
+add-absent-marked c = search needs
+
+sub-absent-marked : tie.Need-sub-absent-marked Inv-loop μ-loop
+sub-absent-marked c = search needs
+
+array-read-absent-marked : tie.Need-array-read-absent-marked Inv-loop μ-loop
+array-read-absent-marked c = search needs
+
+absent-marked-requires : tie.Need-absent-marked-requires Inv-loop μ-loop
+absent-marked-requires c κs =
+    let a = c .before .before .before .before .before .before .before .before .args in
+    let l = c .before .before .before .before .before .before .loop in
+    (search needs, passed-mark (shapeOf (a .s)) (a .p .now) (a .at) (a .n) (l .i) (l .marks) _ _ (l .inv) (omega arith) _ (c .before .before .before .before .load64 .ensures) _ (c .mark-of .ensures .0))
+
+returns-2 : tie.Need-returns-2 Inv-loop μ-loop
+returns-2 c =
+    let a = c .before .before .before .before .before .before .before .before .before .before .args in
+    let l = c .before .before .before .before .before .before .before .before .loop in
+    passed-twice (shapeOf (a .s)) (a .p .now) (a .at) (a .n) (l .i) (l .marks) _ _ (l .inv) (omega arith) _ (c .before .before .before .before .before .before .load64 .ensures) _ _ (c .before .before .before .before .before .rows-for .ensures) _ (c .before .before .before .before .in-rows .ensures) (c .before .before .before .if1 .left) _ (c .before .absent-marked .ensures) (c .if2 .taken)
+
+array-write-marks : tie.Need-array-write-marks Inv-loop μ-loop
+array-write-marks c = search needs
+
+sub-i : tie.Need-sub-i Inv-loop μ-loop
+sub-i c = search needs
+
+loop-less : tie.Need-loop-less Inv-loop μ-loop
+loop-less c = search needs
+
+loop-again : tie.Need-loop-again Inv-loop μ-loop
+loop-again c =
+    let a = c .before .before .before .before .before .before .before .before .before .before .args in
+    let l = c .before .before .before .before .before .before .before .before .loop in
+    passed-on (shapeOf (a .s)) (a .p .now) (a .at) (a .n) (l .i) (l .marks) _ _ (l .inv) (omega arith) _ (c .before .before .before .before .before .before .load64 .ensures) _ _ (c .before .before .before .before .before .rows-for .ensures) _ (c .before .before .before .before .in-rows .ensures) (c .before .before .before .if1 .left) _ (c .before .absent-marked .ensures) _ (c .before .before .mark-of .ensures .0) (c .before .before .mark-of .ensures .1) (c .if2 .left)
+
+returns-3 : tie.Need-returns-3 Inv-loop μ-loop
+returns-3 c =
+    let a = c .before .before .before .args in
+    let l = c .before .loop in
+    passed-end (shapeOf (a .s)) (a .p .now) (a .at) (a .n) (l .i) (l .marks) _ _ (l .inv) (omega arith)
 
 pub targets-fit-spec : {M : Type 1} → statement M
-targets-fit-spec = tie.close (tie.spec ascend-requires returns fit-once-requires returns-2)
+targets-fit-spec =
+    tie.close
+    (tie.spec
+    Inv-loop
+    μ-loop
+    loop-holds
+    sub-load64
+    mul-load64
+    add-load64
+    load64-requires
+    rows-for-requires
+    in-rows-requires
+    returns
+    mark-of-requires
+    mul-absent-marked
+    add-absent-marked
+    sub-absent-marked
+    array-read-absent-marked
+    absent-marked-requires
+    returns-2
+    array-write-marks
+    sub-i
+    loop-less
+    loop-again
+    returns-3)

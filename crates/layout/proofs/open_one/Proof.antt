@@ -1,0 +1,58 @@
+-- `layout::open_one` meets its contract. Assumes nothing.
+use mathlib.Core.Path.{sym, _∙_}
+use Rattle.rules.specs.Header.{pageAt, validHeader}
+use Rattle.layout.proofs.Opening.{open-equal, open-none}
+use borrow.Author.Needs.{needs}
+use Rattle.layout.proofs.open_one.Statement.{statement}
+use Rattle.layout.proofs.open_one.Tie as tie
+
+sub-valid : tie.Need-sub-valid
+sub-valid c = search needs
+
+part-valid-start : tie.Need-part-valid-start
+part-valid-start c = search needs
+
+part-valid-end : tie.Need-part-valid-end
+part-valid-end c = search needs
+
+valid-requires : tie.Need-valid-requires
+valid-requires c κs = search needs
+
+sub-open-by : tie.Need-sub-open-by
+sub-open-by c = search needs
+
+part-open-by-start : tie.Need-part-open-by-start
+part-open-by-start c = search needs
+
+part-open-by-end : tie.Need-part-open-by-end
+part-open-by-end c = search needs
+
+open-by-requires : tie.Need-open-by-requires
+open-by-requires c κs = (search needs, sym (c .before .before .valid .ensures) ∙ c .before .if1 .taken)
+
+returns : tie.Need-returns
+unfolding validHeader pageAt
+returns c =
+    let s = c .before .before .before .before .before .before in
+    open-equal (s .args .pool .now) _ (s .pre .0) (s .pre .1) (c .before .before .before .valid .ensures) _ (c .before .before .if1 .taken) (c .open-by .ensures)
+
+returns-2 : tie.Need-returns-2
+unfolding validHeader pageAt
+returns-2 c =
+    let s = c .before .before .before .before in
+    open-none (s .args .pool .now) _ (s .pre .0) (s .pre .1) (c .before .valid .ensures) (c .if1 .left)
+
+pub open-one-spec : {M : Type 1} → statement M
+open-one-spec =
+    tie.close
+    (tie.spec
+    sub-valid
+    part-valid-start
+    part-valid-end
+    valid-requires
+    sub-open-by
+    part-open-by-start
+    part-open-by-end
+    open-by-requires
+    returns
+    returns-2)

@@ -1,96 +1,96 @@
--- A page rebuilt, and a column judged, one more word at a time. Assumes nothing.
-use Prim.Native.Nat.{ℕ, zero, suc, _+_, _-_, _*_, _≤_, _<_}
-use mathlib.Core.Path.{_≡_, refl, sym, ap, _∙_}
-use mathlib.Core.Bool.{true, false}
-use mathlib.Core.List.{List, _++_}
-use native.Mathlib.Nat.{zero-lt-suc, add-suc, suc-add, add-zero, zero-add}
-use native.Mathlib.Decide.{decLt}
+-- Pages in exclusive or, one more byte and one more row at a time; bytes judged zero. Assumes nothing.
+use Prim.Native.Nat.{ℕ, zero, suc, _+_, _*_, _≤_, _<_}
+use mathlib.Core.Path.{_≡_, refl, sym, ap, ap₂, _∙_}
+use mathlib.Core.Bool.{Bool, _&&_}
+use mathlib.Core.List.{List, _∷_}
+use native.Mathlib.Nat.{zero-add}
+use native.Mathlib.Numerals.{add-one}
 use native.Mathlib.Omega.{arith}
-use borrow.Author.Tests.{eq-eqb, eqb-true, eqb-false}
+use borrow.Author.Tests.{eq-eqb, eqb-true, eqb-false, ne-eqb}
+use lib.Bits.{bitOr, bitXor, and-le-r, or-add-and, or-zero-l, xor-zero-r}
 use lib.Dec.{eqb}
-use lib.ListN.{getD}
-use lib.Seq.{sets, ext-getD}
-use Rattle.rules.specs.Words.{Bytes, digits, number, put}
+use lib.ListN.{length, take, getD, replicate}
+use lib.Seq.{ext-getD, length-take-le}
 use Rattle.rules.specs.Parity.{skip, xorTo}
 use Rattle.rules.specs.Repair.{tabFrom}
+use Rattle.rules.specs.Scrub.{allTo}
 use Rattle.rules.proofs.Bool.{split}
-use Rattle.rules.proofs.Words.{digits-number, length-digits, number-inj, number-zero, sets-after, sets-before, word-cong}
-use Rattle.rules.proofs.Sets.{sets-append}
+use Rattle.rules.proofs.Words.{sets-after}
+use Rattle.rules.proofs.Sets.{sets-all}
 use Rattle.rules.proofs.Repair.{tab-at, tab-length}
-use Rattle.rules.proofs.Scrub.{all-true, true-all}
-use Rattle.rules.proofs.Xor.{xorTo-cong, xorTo-lt}
-use Rattle.columns.specs.Column.{Word, otherByte, rowByte, rowWord, rowsZero}
-use Rattle.columns.proofs.Rows.{other-byte, others-number, row-room, rows-number}
+use Rattle.rules.proofs.Xor.{skip-else, xorTo-cong}
+use Rattle.pages.proofs.Storing.{Storing, storing-end}
+use Rattle.columns.specs.Column.{otherByte, rowByte, rowsZero, xored, zeros}
 
--- ---- a page rebuilt
+-- ---- one more byte
 
-tab-append : (k m n : ℕ) (f : ℕ → ℕ) → tabFrom k (m + n) f ≡ tabFrom k m f ++ tabFrom (k + m) n f
+pub xored-length : (s p : List ℕ) (at : ℕ) → length (xored s p at) ≡ length s
+unfolding xored
+xored-length s p at = tab-length 0 (length s) _
+
+module _ (s p : List ℕ) (at : ℕ) {s′ : List ℕ} {i : ℕ} (f : Storing s 0 (xored s p at) s′ i) where
+  -- the byte that is read is still as it was
+  pub xored-byte : i < length s → bitXor (getD s′ i 0) (getD p (at + i) 0) ≡ getD (xored s p at) i 0
+  unfolding xored
+  xored-byte h =
+      ap (λ (x : ℕ). bitXor x (getD p (at + i) 0)) (ap (λ (x : List ℕ). getD x i 0) (f .now-is) ∙ sets-after s 0 (take i (xored s p at)) i (let l = length-take-le i (xored s p at) (f .le) in omega arith))
+      ∙ sym (tab-at 0 (length s) (λ j. bitXor (getD s j 0) (getD p (at + j) 0)) i h ∙ rw (zero-add i))
+
+  pub xored-end : length s ≤ i → s′ ≡ xored s p at
+  xored-end h = storing-end f (let l = xored-length s p at in omega arith) ∙ sets-all s (xored s p at) (sym (xored-length s p at))
+
+-- ---- one more row
+
+tab-cong : (n : ℕ) (f g : ℕ → ℕ) → ((i : ℕ) → i < n → f i ≡ g i) → tabFrom 0 n f ≡ tabFrom 0 n g
+tab-cong n f g h =
+    ext-getD 0 (tabFrom 0 n f) (tabFrom 0 n g) (tab-length 0 n f ∙ sym (tab-length 0 n g))
+    (λ i l. let j : i < n = rw (tab-length 0 n f) at l in
+    tab-at 0 n f i j ∙ rw (zero-add i) (h i j) ∙ sym (tab-at 0 n g i j ∙ ap g (zero-add i)))
+
+zeros-tab : (k n : ℕ) (f : ℕ → ℕ) → ((i : ℕ) → f i ≡ 0) → replicate n 0 ≡ tabFrom k n f
 unfolding tabFrom
-tab-append k zero n f = rw (zero-add n, add-zero k)
-tab-append k (suc m) n f = rw (suc-add m n, tabFrom, add-suc k m, ← suc-add k m, tab-append (suc k) m n f)
+zeros-tab k zero f h = refl
+zeros-tab k (suc n) f h = ap₂ _∷_ (sym (h k)) (zeros-tab (suc k) n f h)
 
-digits-tab : (k a : ℕ) (f : ℕ → ℕ) → ((i : ℕ) → f i < 256) → digits k (number k (λ i. f (a + i))) ≡ tabFrom a k f
-digits-tab k a f h =
-    ext-getD 0 (digits k (number k (λ i. f (a + i)))) (tabFrom a k f) (length-digits k _ ∙ sym (tab-length a k f))
-    (λ i l. let j : i < k = rw (length-digits k (number k (λ i. f (a + i)))) at l in
-    digits-number k (λ i. f (a + i)) (λ i. h (a + i)) i j ∙ sym (tab-at a k f i j))
+module _ (p : List ℕ) (at stride l n : ℕ) where
+  pub pages-none : replicate n 0 ≡ tabFrom 0 n (otherByte p at stride 0 l)
+  unfolding otherByte xorTo
+  pages-none = zeros-tab 0 n (otherByte p at stride 0 l) (λ i. refl)
 
--- a word stored behind the part of the page that is rebuilt
-put-tab : (p : List ℕ) (a o w : ℕ) (f : ℕ → ℕ) → ((i : ℕ) → f i < 256) → w ≡ number 8 (λ i. f (o + i))
-    → put (sets p a (tabFrom 0 o f)) (a + o) w ≡ sets p a (tabFrom 0 (o + 8) f)
-unfolding put
-put-tab p a o w f h e =
-    ap (sets (sets p a (tabFrom 0 o f)) (a + o)) (ap (digits 8) e ∙ digits-tab 8 o f h)
-    ∙ sym (ap (sets p a) (tab-append 0 o 8 f) ∙ sets-append p a (tabFrom 0 o f) (tabFrom (0 + o) 8 f)
-    ∙ rw (tab-length 0 o f, zero-add o))
+  -- a row that counts, and the one left out
+  pub pages-row : {k : ℕ} {s s′ : List ℕ} → s ≡ tabFrom 0 n (otherByte p at stride k l) → (k ≡ l → ⊥) → s′ ≡ xored s p (at + k * stride)
+      → s′ ≡ tabFrom 0 n (otherByte p at stride (k + 1) l)
+  unfolding otherByte xorTo xored
+  pages-row {k} {s} {s′} e m f =
+      let w : length s ≡ n = ap length e ∙ tab-length 0 n (otherByte p at stride k l) in
+      f ∙ rw (w, add-one k) (tab-cong n _ (otherByte p at stride (suc k) l) (λ i h.
+      rw (ne-eqb l k (λ q. m (sym q))) (ap (λ (x : ℕ). bitXor x (rowByte p at stride i k)) (ap (λ (x : List ℕ). getD x i 0) e ∙ tab-at 0 n (otherByte p at stride k l) i h ∙ ap (otherByte p at stride k l) (zero-add i)))))
 
-module _ (p : List ℕ) (at stride rows l page o : ℕ) (f : ℕ → ℕ) (ho : o + 8 ≤ page) (hp : page ≤ stride) where
-  -- the other rows are as they were
-  others-kept : xorTo rows (skip l (rowWord (sets p (at + l * stride) (tabFrom 0 o f)) (at + o) stride)) ≡ xorTo rows (skip l (rowWord p (at + o) stride))
-  others-kept = xorTo-cong rows _ _ (λ r k. split (eqb l r) (λ e. rw e) (λ e. rw e (word-cong _ p (at + o + r * stride) (λ i j. each r i (eqb-false l r e) j (decLt r l)))))
-    where
-      each : (r i : ℕ) → (l ≡ r → ⊥) → i < 8 → Dec (r < l) → getD (sets p (at + l * stride) (tabFrom 0 o f)) (at + o + r * stride + i) 0 ≡ getD p (at + o + r * stride + i) 0
-      each r i n j (yes d) = sets-before p (at + l * stride) (tabFrom 0 o f) _ (let b = row-room r l stride d in omega arith)
-      each r i n j (no d) =
-          sets-after p (at + l * stride) (tabFrom 0 o f) _ (rw (tab-length 0 o f) (let b = row-room l r stride (omega arith) in omega arith))
+  pub pages-out : {k : ℕ} → k ≡ l → tabFrom 0 n (otherByte p at stride k l) ≡ tabFrom 0 n (otherByte p at stride (k + 1) l)
+  unfolding otherByte xorTo
+  pages-out {k} e = rw (add-one k) (tab-cong n _ _ (λ i h. rw (eq-eqb l k (sym e)) (sym (xor-zero-r (xorTo k (skip l (rowByte p at stride i)))))))
 
-pub page-more : (p q q′ : List ℕ) (at stride rows l page o w : ℕ) → Bytes p → o + 8 ≤ page → page ≤ stride
-    → q ≡ sets p (at + l * stride) (tabFrom 0 o (otherByte p at stride rows l))
-    → Word (xorTo rows (skip l (rowWord q (at + o) stride))) w → q′ ≡ put q (at + o + l * stride) w
-    → q′ ≡ sets p (at + l * stride) (tabFrom 0 (o + 8) (otherByte p at stride rows l))
-page-more p q q′ at stride rows l page o w h ho hp e v s =
-    let f : ℕ → ℕ = otherByte p at stride rows l in
-    let a : at + o + l * stride ≡ at + l * stride + o = omega arith in
-    let n : w ≡ number 8 (λ i. f (o + i)) =
-    v .value ∙ ap (λ (x : List ℕ). xorTo rows (skip l (rowWord x (at + o) stride))) e
-    ∙ others-kept p at stride rows l page o f ho hp ∙ others-number p at stride h rows l o in
-    s ∙ ap (λ (x : ℕ). put q x w) a ∙ ap (λ (x : List ℕ). put x (at + l * stride + o) w) e
-    ∙ put-tab p (at + l * stride) o w f (λ i. other-byte p at stride h rows l i) n
+-- ---- bytes judged zero
 
--- ---- a column judged
+or-zero : (a b : ℕ) → eqb (bitOr a b) 0 ≡ eqb a 0 && eqb b 0
+or-zero a b = split (eqb a 0)
+    (λ e. let z : a ≡ 0 = eqb-true a 0 e in rw e (rw z (ap (λ (x : ℕ). eqb x 0) (or-zero-l b))))
+    (λ e. rw e (ne-eqb (bitOr a b) 0 (λ z. eqb-false a 0 e (let s = or-add-and a b in let l = and-le-r a b in omega arith))))
 
-module _ (p : List ℕ) (at stride rows o w : ℕ) (h : Bytes p) (v : Word (xorTo rows (rowWord p (at + o) stride)) w) where
-  column-byte : (i : ℕ) → xorTo rows (rowByte p at stride i) < 256
-  column-byte i = xorTo-lt 8 rows (rowByte p at stride i) (λ r k. h _) (zero-lt-suc 255)
+pub zeros-more : (s : List ℕ) (i any : ℕ) → eqb any 0 ≡ zeros s i → eqb (bitOr any (getD s i 0)) 0 ≡ zeros s (i + 1)
+unfolding zeros allTo
+zeros-more s i any e = or-zero any (getD s i 0) ∙ rw (add-one i) (ap (λ (b : Bool). b && eqb (getD s i 0) 0) e)
 
-  zero-bytes : w ≡ 0 → (i : ℕ) → i < 8 → xorTo rows (rowByte p at stride (o + i)) ≡ 0
-  zero-bytes e =
-      number-inj 8 (λ i. xorTo rows (rowByte p at stride (o + i))) (λ i. 0) (λ i. column-byte (o + i)) (λ i. zero-lt-suc 255)
-      (sym (rows-number p at stride h rows o) ∙ sym (v .value) ∙ e ∙ sym (number-zero 8 (λ i. 0) (λ i k. refl)))
+pub allTo-cong : (n : ℕ) (f g : ℕ → Bool) → ((i : ℕ) → i < n → f i ≡ g i) → allTo n f ≡ allTo n g
+unfolding allTo
+allTo-cong zero f g h = refl
+allTo-cong (suc n) f g h = ap₂ _&&_ (allTo-cong n f g (λ i l. h i (omega arith))) (h n (omega arith))
 
-  pub zero-more : w ≡ 0 → rowsZero p at stride rows o ≡ true → rowsZero p at stride rows (o + 8) ≡ true
-  unfolding rowsZero
-  zero-more e t = true-all (o + 8) _ (λ i k. go i k (decLt i o))
-    where
-      go : (i : ℕ) → i < o + 8 → Dec (i < o) → eqb (xorTo rows (rowByte p at stride i)) 0 ≡ true
-      go i k (yes d) = all-true o (λ i. eqb (xorTo rows (rowByte p at stride i)) 0) t i d
-      go i k (no d) =
-          let j : o + (i - o) ≡ i = omega arith in
-          eq-eqb _ 0 (rw j at (zero-bytes e (i - o) (omega arith)))
-
-  pub not-zero : (page : ℕ) → o + 8 ≤ page → (w ≡ 0 → ⊥) → false ≡ rowsZero p at stride rows page
-  unfolding rowsZero
-  not-zero page k n =
-      split (rowsZero p at stride rows page)
-      (λ t. absurd (n (v .value ∙ rows-number p at stride h rows o ∙ number-zero 8 _ (λ i j.
-      eqb-true _ 0 (all-true page (λ i. eqb (xorTo rows (rowByte p at stride i)) 0) t (o + i) (omega arith)))))) (λ t. sym t)
+-- no row is left out where the one behind the last is
+pub rows-judged : (p : List ℕ) (at stride rows n : ℕ) {s : List ℕ} {r : Bool} → s ≡ tabFrom 0 n (otherByte p at stride rows rows) → r ≡ zeros s (length s)
+    → r ≡ rowsZero p at stride rows n
+unfolding otherByte zeros rowsZero
+rows-judged p at stride rows n {s} {r} e f =
+    f ∙ ap (zeros s) (ap length e ∙ tab-length 0 n (otherByte p at stride rows rows))
+    ∙ allTo-cong n _ _ (λ i h. ap (λ (x : ℕ). eqb x 0) (ap (λ (x : List ℕ). getD x i 0) e ∙ tab-at 0 n (otherByte p at stride rows rows) i h ∙ ap (otherByte p at stride rows rows) (zero-add i)
+    ∙ xorTo-cong rows _ (rowByte p at stride i) (λ k l. skip-else rows (rowByte p at stride i) k (omega arith))))

@@ -1,64 +1,77 @@
 // The rows of a column (01, "The pool's bytes"): their exclusive or, a page rebuilt from the others, a column's parity judged.
 ghost use mathlib.Core.Path.{_≡_};
-ghost use Prim.Native.Nat.{_+_, _*_, _%_, _≤_, _<_};
+ghost use Prim.Native.Nat.{_+_, _*_, _≤_, _<_};
+ghost use lib.ListN.{length, replicate};
 ghost use lib.Seq.{sets};
-ghost use Rattle.rules.specs.Parity.{skip, xorTo};
+ghost use Rattle.rules.specs.Shape.{pageSize};
+ghost use Rattle.rules.specs.Parity.{xorTo};
 ghost use Rattle.rules.specs.Repair.{tabFrom};
-ghost use Rattle.columns.specs.Column.{RowsFit, Word, otherByte, rowWord, rowsZero};
+ghost use Rattle.columns.specs.Column.{RowsFit, Word, otherByte, rowWord, rowsZero, xored, zeros};
 
-// The exclusive or of the words at `at` in all rows but the one left out.
-pub fn xor_others(pool: &[u8], at: usize, stride: usize, rows: usize, without: usize) -> u64
-    requires { ⌜ RowsFit (now pool) at stride rows 8 ⌝ }
-    ensures { λ r. ⌜ Word (xorTo rows (skip without (rowWord (now (pool .entry)) at stride))) r ⌝ }
-{
-    let mut acc: u64 = 0;
-    for k in 0..rows {
-        if k != without {
-            acc = acc ^ words::load64(pool, at + k * stride);
-        }
-    }
-    acc
-}
+// Bytes of a page.
+const PAGE: usize = 256;
 
-// The exclusive or of the words at `at` in all rows: none is left out.
+// The exclusive or of the words at `at` in all rows.
 pub fn xor_rows(pool: &[u8], at: usize, stride: usize, rows: usize) -> u64
     requires { ⌜ RowsFit (now pool) at stride rows 8 ⌝ }
     ensures { λ r. ⌜ Word (xorTo rows (rowWord (now (pool .entry)) at stride)) r ⌝ }
 {
-    xor_others(pool, at, stride, rows, rows)
+    let mut acc: u64 = 0;
+    for k in 0..rows {
+        acc = acc ^ words::load64(pool, at + k * stride);
+    }
+    acc
+}
+
+// `sum` becomes the exclusive or of itself and the pool's bytes from `at` on.
+fn xor_page(sum: &mut [u8], pool: &[u8], at: usize)
+    requires { ⌜ at + length (now sum) ≤ length (now pool) ⌝ }
+    ensures { λ _. ⌜ now (sum .exit) ≡ xored (now (sum .entry)) (now (pool .entry)) at ⌝ }
+{
+    for i in 0..sum.len() {
+        sum[i] = sum[i] ^ pool[at + i];
+    }
+}
+
+// `sum`, zero at first, becomes the exclusive or of the pages at `at` in all rows but the one left out.
+fn xor_pages(sum: &mut [u8], pool: &[u8], at: usize, stride: usize, rows: usize, without: usize)
+    requires { ⌜ (now sum ≡ replicate pageSize 0) × (RowsFit (now pool) at stride rows pageSize) ⌝ }
+    ensures { λ _. ⌜ now (sum .exit) ≡ tabFrom 0 pageSize (otherByte (now (pool .entry)) at stride rows without) ⌝ }
+{
+    for k in 0..rows {
+        if k != without {
+            xor_page(sum, pool, at + k * stride);
+        }
+    }
+}
+
+// Whether all bytes are zero. The loop has no branch: every byte is read.
+fn all_zero(s: &[u8]) -> bool
+    ensures { λ r. ⌜ r ≡ zeros (now (s .entry)) (length (now (s .entry))) ⌝ }
+{
+    let mut any = 0u8;
+    for i in 0..s.len() {
+        any = any | s[i];
+    }
+    any == 0
 }
 
 // The lost row's page becomes the exclusive or of the other rows' pages.
-pub fn rebuild_page(
-    pool: &mut [u8],
-    at: usize,
-    stride: usize,
-    rows: usize,
-    lost: usize,
-    page: usize,
-)
-    requires { ⌜ (RowsFit (now pool) at stride rows page) × (lost < rows) × (page ≤ stride) × (page % 8 ≡ 0) ⌝ }
-    ensures { λ _. ⌜ now (pool .exit) ≡ sets (now (pool .entry)) (at + lost * stride) (tabFrom 0 page (otherByte (now (pool .entry)) at stride rows lost)) ⌝ }
+pub fn rebuild_page(pool: &mut [u8], at: usize, stride: usize, rows: usize, lost: usize)
+    requires { ⌜ (RowsFit (now pool) at stride rows pageSize) × (lost < rows) ⌝ }
+    ensures { λ _. ⌜ now (pool .exit) ≡ sets (now (pool .entry)) (at + lost * stride) (tabFrom 0 pageSize (otherByte (now (pool .entry)) at stride rows lost)) ⌝ }
 {
-    let mut o = 0;
-    while o < page {
-        let w = xor_others(pool, at + o, stride, rows, lost);
-        words::store64(pool, at + o + lost * stride, w);
-        o += 8;
-    }
+    let mut sum = [0u8; PAGE];
+    xor_pages(&mut sum, pool, at, stride, rows, lost);
+    pages::store(pool, at + lost * stride, &sum);
 }
 
 // Whether the exclusive or of the rows' pages is zero at every byte.
-pub fn page_right(pool: &[u8], at: usize, stride: usize, rows: usize, page: usize) -> bool
-    requires { ⌜ (RowsFit (now pool) at stride rows page) × (0 < rows) × (page % 8 ≡ 0) ⌝ }
-    ensures { λ r. ⌜ r ≡ rowsZero (now (pool .entry)) at stride rows page ⌝ }
+pub fn page_right(pool: &[u8], at: usize, stride: usize, rows: usize) -> bool
+    requires { ⌜ RowsFit (now pool) at stride rows pageSize ⌝ }
+    ensures { λ r. ⌜ r ≡ rowsZero (now (pool .entry)) at stride rows pageSize ⌝ }
 {
-    let mut o = 0;
-    while o < page {
-        if xor_rows(pool, at + o, stride, rows) != 0 {
-            return false;
-        }
-        o += 8;
-    }
-    true
+    let mut sum = [0u8; PAGE];
+    xor_pages(&mut sum, pool, at, stride, rows, rows);
+    all_zero(&sum)
 }

@@ -1,7 +1,7 @@
 -- The places of a column: its rows are a row's bytes apart. Assumes nothing.
-use Prim.Native.Nat.{ℕ, zero, suc, _+_, _-_, _*_, _/_, _%_, _≤_, _<_}
-use mathlib.Core.Path.{_≡_, refl, sym, ap, ap₂, _∙_}
-use mathlib.Core.Bool.{Bool, true, false, _&&_}
+use Prim.Native.Nat.{ℕ, suc, _+_, _-_, _*_, _/_, _%_, _≤_, _<_}
+use mathlib.Core.Path.{_≡_, sym, ap, _∙_}
+use mathlib.Core.Bool.{Bool, true, false}
 use mathlib.Core.List.{List}
 use native.Mathlib.Nat.{div-add-mod', div-lt-iff-lt-mul, mul-le-mul}
 use native.Mathlib.Numerals.{add-one}
@@ -12,12 +12,13 @@ use lib.ListN.{length, getD}
 use Rattle.rules.specs.Words.{word}
 use Rattle.rules.specs.Shape.{Shape, byteAt, off, poolSize, row, rowAt, rowSize, zone, zonesAt}
 use Rattle.rules.specs.Parity.{columnByte, parityWord, xorTo}
-use Rattle.rules.specs.Scrub.{allTo, columnRight, countTo, sumTo}
+use Rattle.rules.specs.Scrub.{columnRight, countTo, sumTo}
 use Rattle.rules.specs.Header.{inRange}
 use Rattle.rules.proofs.Header.{range-ranged}
 use Rattle.rules.proofs.Shape.{Good, cell-high, cell-self, fits, off-cell, off-lt, row-in, zone-cell, zone-lt, InZones}
 use Rattle.rules.proofs.Xor.{xorTo-cong}
 use Rattle.columns.specs.Column.{RowsFit, Word, rowByte, rowWord, rowsZero}
+use Rattle.columns.proofs.Pages.{allTo-cong}
 
 -- ---- numbers of a shape in range
 
@@ -44,11 +45,6 @@ byte-row sh z r o = omega arith
 pub byte-off : (sh : Shape) (z r a o : ℕ) → byteAt sh z r (a + o) ≡ byteAt sh z 0 a + r * rowSize sh + o
 unfolding byteAt
 byte-off sh z r a o = omega arith
-
-allTo-cong : (n : ℕ) (f g : ℕ → Bool) → ((i : ℕ) → i < n → f i ≡ g i) → allTo n f ≡ allTo n g
-unfolding allTo
-allTo-cong zero f g h = refl
-allTo-cong (suc n) f g h = ap₂ _&&_ (allTo-cong n f g (λ i l. h i (omega arith))) (h n (omega arith))
 
 -- ---- column c of zone z
 

@@ -63,7 +63,7 @@ fn wrong_in_zone(s: Shape, pool: &[u8], z: usize) -> usize
     let mut n: usize = 0;
     for c in 0..s.cols {
         let at = byte_at(s, z, 0, c * Shape::PAGE);
-        if !columns::page_right(pool, at, stride, s.rows + 1, Shape::PAGE) {
+        if !columns::page_right(pool, at, stride, s.rows + 1) {
             n += 1;
         }
     }

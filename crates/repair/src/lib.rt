@@ -43,7 +43,7 @@ fn rebuild_column(s: Shape, pool: &mut [u8], k: usize, mask: u16)
 {
     let at = parity::byte_at(s, k / s.cols, 0, k % s.cols * Shape::PAGE);
     let row = u16::trailing_zeros(mask) as usize;
-    columns::rebuild_page(pool, at, parity::row_size(s), s.rows + 1, row, Shape::PAGE);
+    columns::rebuild_page(pool, at, parity::row_size(s), s.rows + 1, row);
 }
 
 // Each lost page becomes the exclusive or of its column's others.

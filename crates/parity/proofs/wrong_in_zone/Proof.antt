@@ -37,12 +37,9 @@ add-page-right c = omega (arith, range-ranged (shapeOf (c .before .before .befor
 
 page-right-requires : tie.Need-page-right-requires Inv-loop μ-loop
 page-right-requires c κs =
-    let a = c .before .before .before .before .before .before in (
-      column-fits (shapeOf (a .args .s)) (shape-good (a .args .s) (a .pre .0)) (a .args .z) (c .before .before .before .loop .c) (a .pre .1) (omega arith)
-          (a .args .pool .now) _ _ (c .before .byte-at .ensures) (c .before .before .before .before .row-size .ensures .0) (a .pre .2),
-      search needs,
-      refl,
-    )
+    let a = c .before .before .before .before .before .before in
+    column-fits (shapeOf (a .args .s)) (shape-good (a .args .s) (a .pre .0)) (a .args .z) (c .before .before .before .loop .c) (a .pre .1) (omega arith)
+    (a .args .pool .now) _ _ (c .before .byte-at .ensures) (c .before .before .before .before .row-size .ensures .0) (a .pre .2)
 
 add-n : tie.Need-add-n Inv-loop μ-loop
 add-n c = search needs

@@ -1,7 +1,6 @@
 -- `repair::rebuild_column` meets its contract. Assumes nothing.
 use lib.Count.{trailingZeros}
 use Prim.Native.Nat.{suc, _/_, _%_, _<_}
-use mathlib.Core.Path.{refl}
 use native.Mathlib.Omega.{arith}
 use borrow.Author.Needs.{needs}
 use Rattle.rules.proofs.Header.{Ranged, range-ranged}
@@ -46,12 +45,9 @@ add-rebuild-page c = omega (arith, ranged (c .before .before .before .before .be
 rebuild-page-requires : tie.Need-rebuild-page-requires
 rebuild-page-requires c κs =
     let a = c .before .before .before .before .before .before .before in
-    let k = column a in
-    let r = ranged a in (
+    let k = column a in (
       column-fits _ (shape-good (a .args .s) (a .pre .0)) _ _ (k .0) (k .1) (a .args .pool .now) _ _ (c .before .before .before .byte-at .ensures) (c .before .row-size .ensures .0) (a .pre .1),
       omega (arith, lost-below a),
-      omega (arith, c .before .row-size .ensures .0),
-      refl,
     )
 
 same-length : tie.Need-same-length

@@ -11,6 +11,7 @@ use Rattle.rules.specs.Staging.{Store, touch, touchWords}
 use Rattle.rules.proofs.Words.{word-cong}
 use Rattle.stage.specs.View.{entriesOf}
 use Rattle.stage.specs.Touched.{Room, TouchedWords, missing}
+use Rattle.stage.proofs.Counted.{missing-most}
 use Rattle.stage.proofs.Entries.{length-entries}
 use Rattle.stage.proofs.Touched.{grown-twice, length-words, missing-words}
 
@@ -54,7 +55,18 @@ room-behind {st} {st′} {n} {m} {k} {j} {o} {p} {ys} r t e =
     let b : missing j p (entriesOf st′ m) ≡ missing j (o + 8 * k) (entriesOf st n) = rw (t .entries, e) (missing-words k o ys (entriesOf st n) j (o + 8 * k) (omega arith)) in
     record { held = rw (t .grown .long, b) (omega (arith, r .held, missing-append k j o (entriesOf st n))) }
 
--- one word more, of k
+-- ---- words of which none has an entry yet: the first k, and those behind them
+
+pub fresh-part : (k j o : ℕ) (es : List Store) → missing (k + j) o es ≡ k + j → missing k o es ≡ k
+fresh-part k j o es e = omega (arith, e, missing-append k j o es, missing-most k o es, missing-most j (o + 8 * k) es)
+
+pub fresh-after : {st st′ : List ℕ} {n m k o p : ℕ} {ys : List ℕ} (j : ℕ) → missing (k + j) o (entriesOf st n) ≡ k + j → TouchedWords st n k o ys st′ m → p ≡ o + 8 * k → missing j p (entriesOf st′ m) ≡ j
+fresh-after {st} {n = n} {k = k} {o} {ys = ys} j e t q =
+    rw (t .entries, q, missing-words k o ys (entriesOf st n) j (o + 8 * k) (omega arith))
+    (omega (arith, e, missing-append k j o (entriesOf st n), missing-most k o (entriesOf st n), missing-most j (o + 8 * k) (entriesOf st n)))
+
+-- ---- one word more, of k
+
 pub room-within : {st st′ : List ℕ} {n m k i o : ℕ} {ys : List ℕ} → Room st n k o → i < k → TouchedWords st n i o ys st′ m → Room st′ m 1 (o + 8 * i)
 room-within {k = k} {i} {o} r h t =
     let e : k ≡ i + (1 + (k - i - 1)) = omega arith in

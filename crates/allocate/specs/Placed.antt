@@ -12,6 +12,8 @@ use Rattle.rules.specs.Header.{within}
 use Rattle.rules.specs.Runs.{cellsFor, objectBytes}
 use Rattle.rules.specs.Staging.{Store, touchWords}
 use Rattle.rules.specs.Plan.{fitTest, fitted, search, touchFree}
+use Rattle.rules.proofs.Staging.{Tidy}
+use Rattle.stage.specs.View.{entriesOf}
 use Rattle.zones.specs.declared.Found.{Found}
 use Rattle.zones.specs.declared.Found.the-variants.{At, Refused}
 
@@ -50,6 +52,7 @@ placeObject o left t b es =
 -- What this asks of staging memory st with n entries, the offset o, the cells left of the run and a body of m bytes.
 pub record Placing (st : List ℕ) (n o left m : ℕ) : Type 0 where
   pub few : n ≤ entryLimit
+  pub tidy : Tidy (entriesOf st n)
   pub room : stagingSize ≤ length st
   pub small : m ≤ bodyLimit
   pub low : o + 1024 < 2 ^ 64

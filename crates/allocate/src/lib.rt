@@ -1,5 +1,6 @@
 // Allocate (01, "Transactions"): the lowest zone's lowest free run that is long enough, and the words of the new object touched.
 ghost use mathlib.Core.Path.{_≡_};
+ghost use mathlib.Core.Bool.{true};
 ghost use Prim.Native.Nat.{_+_, _*_, _^_, _≤_, _<_};
 ghost use lib.ListN.{length};
 ghost use Rattle.rules.specs.Runs.{cellsFor, freeHead, objectBytes};
@@ -7,7 +8,7 @@ ghost use Rattle.rules.specs.Answer.{address as addressOf};
 ghost use Rattle.rules.specs.Plan.{allocate as allocateCall};
 ghost use Rattle.words.specs.Loaded.{Loaded};
 ghost use Rattle.stage.specs.View.{entriesOf, seen, Staged as StagedOn};
-ghost use Rattle.stage.specs.Touched.{Room, TouchedWords};
+ghost use Rattle.stage.specs.Touched.{missing, Room, TouchedWords};
 ghost use Rattle.layout.specs.Reading.{shapeOf, Shaped};
 ghost use Rattle.answers.specs.Planned.{leftOf, planned, stageEntries, Judged};
 ghost use Rattle.allocate.specs.Placed.{freeWords, placeObject, FitsBody, Placing};
@@ -31,6 +32,9 @@ fn body_word(body: &[u8], at: usize) -> u64
     requires { ⌜ at < 65536 ⌝ }
     ensures { λ r. ⌜ Loaded 8 (now (body .entry)) at r ⌝ }
 {
+    if at + 8 <= body.len() {
+        return words::load64(body, at);
+    }
     let mut word = 0;
     let mut i = 8;
     while 0 < i {
@@ -40,29 +44,45 @@ fn body_word(body: &[u8], at: usize) -> u64
     word
 }
 
-// Touches `words` words from `target` on: the body, and zeros after it. The number of entries then.
-fn touch_body(staging: &mut [u8], count: usize, target: u64, words: usize, body: &[u8]) -> usize
-    requires { ⌜ Room (now staging) count words target × (words ≤ 64) × (target + 512 < 2 ^ 64) ⌝ }
+// Touches `words` words from `target` on: the body, and zeros after it. They have no entry yet where `known`. The number of entries then.
+fn touch_body(
+    staging: &mut [u8],
+    count: usize,
+    target: u64,
+    words: usize,
+    body: &[u8],
+    known: bool,
+) -> usize
+    requires { ⌜ Room (now staging) count words target × (words ≤ 64) × (target + 512 < 2 ^ 64) × (known ≡ true → missing words target (entriesOf (now staging) count) ≡ words) ⌝ }
     ensures { λ r. ⌜ TouchedWords (now (staging .entry)) count words target (now (body .entry)) (now (staging .exit)) r ⌝ }
 {
+    let fresh = stage::all_fresh(staging, count, target, words, known);
     let mut n = count;
     let mut i = 0;
     while i < words {
-        n = stage::touch(staging, n, target + 8 * (i as u64), body_word(body, 8 * i));
+        let word = body_word(body, 8 * i);
+        n = stage::touch_known(staging, n, target + 8 * (i as u64), word, fresh);
         i += 1;
     }
     n
 }
 
-// Touches all words of the cells of a new object at `at`; the number of entries then.
-fn touch_object(staging: &mut [u8], count: usize, at: u64, tag: u32, body: &[u8]) -> usize
-    requires { ⌜ Room (now staging) count (8 * cellsFor (length (now body))) at × (length (now body) ≤ 496) × (at + 1024 < 2 ^ 64) ⌝ }
+// Touches all words of the cells of a new object at `at`, which have no entry yet where `fresh`; the number of entries then.
+fn touch_object(
+    staging: &mut [u8],
+    count: usize,
+    at: u64,
+    tag: u32,
+    body: &[u8],
+    fresh: bool,
+) -> usize
+    requires { ⌜ Room (now staging) count (8 * cellsFor (length (now body))) at × (length (now body) ≤ 496) × (at + 1024 < 2 ^ 64) × (fresh ≡ true → missing (8 * cellsFor (length (now body))) at (entriesOf (now staging) count) ≡ 8 * cellsFor (length (now body))) ⌝ }
     ensures { λ r. ⌜ TouchedWords (now (staging .entry)) count (8 * cellsFor (length (now (body .entry)))) at (objectBytes tag (now (body .entry))) (now (staging .exit)) r ⌝ }
 {
     let h = heads::object_head(tag, body);
     let words = 8 * heads::cells_for(body.len());
-    let n = stage::touch_head(staging, count, at, h.first, h.second);
-    touch_body(staging, n, at + 16, words - 2, body)
+    let n = stage::touch_head(staging, count, at, h.first, h.second, fresh);
+    touch_body(staging, n, at + 16, words - 2, body, fresh)
 }
 
 // How many words are touched of the remainder, `left` cells.
@@ -75,14 +95,15 @@ fn free_words(left: usize) -> usize
     0
 }
 
-// Touches both head words of a free run of `cells` cells at `at`, if there is one; the number of entries then.
-fn touch_rest(staging: &mut [u8], count: usize, at: u64, cells: usize) -> usize
-    requires { ⌜ Room (now staging) count (freeWords cells) at × (cells < 65536) × (at + 8 < 2 ^ 64) ⌝ }
+// Touches both head words of a free run of `cells` cells at `at`, if there is one; they have no entry yet where `fresh`. The number of
+// entries then.
+fn touch_rest(staging: &mut [u8], count: usize, at: u64, cells: usize, fresh: bool) -> usize
+    requires { ⌜ Room (now staging) count (freeWords cells) at × (cells < 65536) × (at + 8 < 2 ^ 64) × (fresh ≡ true → missing (freeWords cells) at (entriesOf (now staging) count) ≡ freeWords cells) ⌝ }
     ensures { λ r. ⌜ TouchedWords (now (staging .entry)) count (freeWords cells) at (freeHead cells) (now (staging .exit)) r ⌝ }
 {
     if 0 < cells {
         let h = heads::free_head(cells);
-        return stage::touch_head(staging, count, at, h.first, h.second);
+        return stage::touch_head(staging, count, at, h.first, h.second, fresh);
     }
     count
 }
@@ -102,14 +123,16 @@ fn place(
 {
     let cells = heads::cells_for(body.len());
     let words = 8 * cells + free_words(left);
-    if Shape::ENTRIES < count + stage::fresh_words(staging, count, at, words) {
+    let added = stage::fresh_words(staging, count, at, words);
+    if Shape::ENTRIES < count + added {
         return Staged {
             answer: Answer::Refused(27),
             count,
         };
     }
-    let n = touch_object(staging, count, at, tag, body);
-    let m = touch_rest(staging, n, at + 64 * (cells as u64), left);
+    let fresh = added == words;
+    let n = touch_object(staging, count, at, tag, body, fresh);
+    let m = touch_rest(staging, n, at + 64 * (cells as u64), left, fresh);
     Staged {
         answer: Answer::Address(address),
         count: m,

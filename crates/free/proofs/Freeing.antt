@@ -1,7 +1,7 @@
 -- The ways out of free. Assumes nothing.
 use Prim.Native.Nat.{ℕ, _+_, _*_, _/_, _%_, _^_, _≤_, _<_}
 use mathlib.Core.Path.{_≡_, sym, ap, _∙_}
-use mathlib.Core.Bool.{true}
+use mathlib.Core.Bool.{Bool, true}
 use mathlib.Core.Option.{none}
 use mathlib.Core.List.{List, _++_}
 use native.Mathlib.Omega.{arith}
@@ -26,12 +26,13 @@ use Rattle.stage.proofs.Entries.{length-entries}
 use Rattle.stage.proofs.Touched.{length-words}
 use Rattle.heads.specs.HeadWords.{headOf}
 use Rattle.runs.specs.Rest.{Zoned, walkOf}
-use Rattle.runs.specs.Spotted.{Joined}
+use Rattle.runs.specs.Spotted.{Joined, Spotted}
 use Rattle.objects.specs.declared.Named.{Named}
 use Rattle.objects.specs.declared.Named.the-variants.{Object, Refused}
-use Rattle.zones.specs.Found.{NamedAt, NamesAt, ZoneIs}
+use Rattle.zones.specs.Found.{NamedAt, NamesAt, SpotAt, ZoneIs}
 use Rattle.zones.proofs.Shaped.{address-cell, address-zone, zone-inside}
 use Rattle.zones.proofs.Searching.{walk-in}
+use Rattle.zones.proofs.NamedAt.{spot-located}
 use Rattle.answers.specs.Planned.{Judged, Left, planned, stageEntries}
 use Rattle.answers.proofs.Planned.{planned-passed, planned-refused, stage-many, stage-stored}
 
@@ -79,6 +80,11 @@ module _ (s : Shape) {p st : List ℕ} {n : ℕ} (j : Judged (shapeOf s) p st n)
 
         pub free-whole : walkOf (seen p st n) from cells .whole ≡ true
         free-whole = rw (← (walk-in (seen p st n) z), f) (named .whole)
+
+        pub free-spotted : {w : Bool} {b k : ℕ} {g : Bool} → SpotAt (shapeOf s) (seen p st n) a w b k g → Spotted (seen p st n) from cells (a % N) b k g
+        free-spotted x =
+            let d = spot-located (shapeOf s) (seen p st n) a f z (rw f (named .below)) x in
+            d .spotted (d .whole-is ∙ free-whole)
 
         pub free-there : runAt (a % N) 0 (walkOf (seen p st n) from cells .runs) ≡ none → ⊥
         unfolding runThere

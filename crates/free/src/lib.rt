@@ -7,6 +7,7 @@ ghost use Rattle.rules.specs.Runs.{freeHead};
 ghost use Rattle.rules.specs.Staging.{touchWords};
 ghost use Rattle.rules.specs.Answer.{taken};
 ghost use Rattle.rules.specs.Plan.{release};
+ghost use Rattle.rules.proofs.Staging.{Tidy};
 ghost use Rattle.layout.specs.Reading.{shapeOf};
 ghost use Rattle.stage.specs.View.{entriesOf};
 ghost use Rattle.answers.specs.Planned.{Judged, leftOf, planned, stageEntries};
@@ -19,17 +20,18 @@ use runs::Zone;
 
 // Touches the head of a free run of `cells` cells at `at`, or refusal 27.
 pub fn touch_free(staging: &mut [u8], count: usize, at: usize, cells: usize) -> Staged
-    requires { ⌜ (count ≤ entryLimit) × (stagingSize ≤ length (now staging)) × (at + 16 < 2 ^ 32) × (cells < 65536) ⌝ }
+    requires { ⌜ (count ≤ entryLimit) × (stagingSize ≤ length (now staging)) × (at + 16 < 2 ^ 32) × (cells < 65536) × Tidy (entriesOf (now staging) count) ⌝ }
     ensures { λ r. ⌜ leftOf r (now (staging .exit)) ≡ stageEntries (now (staging .entry)) count taken (touchWords 2 at (freeHead cells) (entriesOf (now (staging .entry)) count)) ⌝ }
 {
-    if Shape::ENTRIES < count + stage::fresh_words(staging, count, at as u64, 2) {
+    let added = stage::fresh_words(staging, count, at as u64, 2);
+    if Shape::ENTRIES < count + added {
         return Staged {
             answer: Answer::Refused(27),
             count,
         };
     }
     let h = heads::free_head(cells);
-    let n = stage::touch_head(staging, count, at as u64, h.first, h.second);
+    let n = stage::touch_head(staging, count, at as u64, h.first, h.second, added == 2);
     Staged {
         answer: Answer::Taken,
         count: n,
@@ -41,7 +43,8 @@ pub fn free(pool: &[u8], staging: &mut [u8], count: usize, s: Shape, a: usize) -
     requires { ⌜ Judged (shapeOf s) (now pool) (now staging) count ⌝ }
     ensures { λ r. ⌜ leftOf r (now (staging .exit)) ≡ planned (shapeOf s) (now (pool .entry)) (now (staging .entry)) count (release a) ⌝ }
 {
-    match zones::object_at(pool, staging, count, s, a) {
+    let p = zones::spot_at(pool, staging, count, s, a);
+    match zones::object_in(pool, staging, count, s, a, p) {
         Named::Refused(n) => Staged {
             answer: Answer::Refused(n),
             count,
@@ -50,7 +53,7 @@ pub fn free(pool: &[u8], staging: &mut [u8], count: usize, s: Shape, a: usize) -
             let cells = s.cells();
             let place = zones::zone(s, a / cells);
             let from = place.from;
-            let j = runs::joined(pool, staging, count, place, a % cells);
+            let j = runs::joined(pool, staging, count, place, a % cells, p);
             touch_free(staging, count, from + 64 * j.cell, j.count)
         }
     }

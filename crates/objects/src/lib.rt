@@ -12,8 +12,10 @@ ghost use Rattle.sums.specs.Fed.{Below, Fed};
 ghost use Rattle.stage.specs.View.{part, seen, Staged};
 ghost use Rattle.heads.specs.HeadWords.{headOf};
 ghost use Rattle.runs.specs.Rest.{walkOf, Zoned};
+ghost use Rattle.runs.specs.Spotted.{Spotted};
 ghost use Rattle.objects.specs.Named.{objectRun, Names};
 use heads::Head;
+use runs::Spot;
 use runs::Zone;
 use sums::Sums;
 
@@ -28,7 +30,7 @@ pub fn feed_part(pool: &[u8], staging: &[u8], count: usize, s: Sums, from: usize
     requires { ⌜ Staged (now pool) (now staging) count × (from % 8 ≡ 0) × (from + n ≤ length (now pool)) × Below (s .low) (s .high) ⌝ }
     ensures { λ r. ⌜ Fed (s .low) (s .high) (part n from (seen (now (pool .entry)) (now (staging .entry)) count)) (r .low) (r .high) ⌝ }
 {
-    if count == 0 {
+    if from + n <= stage::next_target(staging, count, from) {
         return s.feed(&pool[from..from + n]);
     }
     let mut sums = s;
@@ -66,12 +68,11 @@ fn object(pool: &[u8], staging: &[u8], count: usize, h: Head, at: usize) -> Name
     Named::Refused(25)
 }
 
-// The object that begins at cell `c` of an unbroken zone, or refusal 24 or 25.
-pub fn in_zone(pool: &[u8], staging: &[u8], count: usize, zone: Zone, c: usize) -> Named
-    requires { ⌜ Staged (now pool) (now staging) count × Zoned (now pool) (zone .from) (zone .cells) × (c < zone .cells) × (walkOf (seen (now pool) (now staging) count) (zone .from) (zone .cells) .whole ≡ true) ⌝ }
+// The object that begins at cell `c` of a zone, located, or refusal 24 or 25.
+pub fn in_zone(pool: &[u8], staging: &[u8], count: usize, zone: Zone, c: usize, s: Spot) -> Named
+    requires { ⌜ Staged (now pool) (now staging) count × Zoned (now pool) (zone .from) (zone .cells) × (c < zone .cells) × Spotted (seen (now pool) (now staging) count) (zone .from) (zone .cells) c (s .prior) (s .cells) (s .free) ⌝ }
     ensures { λ r. ⌜ Names (seen (now (pool .entry)) (now (staging .entry)) count) (zone .from + 64 * c) (runAt c 0 (walkOf (seen (now (pool .entry)) (now (staging .entry)) count) (zone .from) (zone .cells) .runs)) r ⌝ }
 {
-    let s = runs::locate(pool, staging, count, zone, c);
     if s.cells == 0 {
         return Named::Refused(24);
     }

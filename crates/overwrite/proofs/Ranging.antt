@@ -13,9 +13,10 @@ use Rattle.rules.proofs.Words.{field-part, length-digits}
 use Rattle.rules.proofs.Sets.{drop-sets, drop-take, part-sets-before, sets-append}
 use Rattle.rules.proofs.Staging.{Tidy, lay-touch, tidy-touch}
 use Rattle.stage.specs.View.{Reads, Staged, entriesOf, part, seen}
-use Rattle.stage.specs.Touched.{Grown, Room, Touched}
+use Rattle.stage.specs.Touched.{Grown, Room, Touched, added}
+use Rattle.stage.proofs.Counted.{fresh-at, fresh-behind, fresh-first}
 use Rattle.stage.proofs.Touched.{grown-twice, room-count, room-first, room-next}
-use Rattle.overwrite.specs.Range.{RangeRoom, RangeTouched}
+use Rattle.overwrite.specs.Range.{RangeFresh, RangeRoom, RangeTouched}
 use Rattle.overwrite.proofs.Updated.{rest-all}
 
 -- ---- stores past the end of a list are none
@@ -156,6 +157,32 @@ ranging-step {pool} {st₀} {n₀} {at} {xs} {st} {st′} {m} {m′} {i} {r} {w}
       view = rw (a, from-step p) (z ∙ sym (drop-drop 8 o (seen pool st m)) ∙ ap (drop 8) (f .view) ∙ drop-drop 8 o (seen pool st₀ n₀));
       whole = inr (omega (arith, from-even p));
     }
+
+-- ---- no entry for any word of the range
+
+pub fresh-within : {st : List ℕ} {n at k i : ℕ} → RangeFresh st n at k → i < k → added ((at + i) / 8 * 8) (entriesOf st n) ≡ 1
+unfolding wordCount wordFrom
+fresh-within {st} {n} {at} {k} {i} f h =
+    let j : ℕ = (at + i) / 8 - at / 8 in
+    let q : at / 8 * 8 + 8 * j ≡ (at + i) / 8 * 8 = omega arith in
+    sym (ap (λ (x : ℕ). added x (entriesOf st n)) q) ∙ fresh-at ((at % 8 + k + 7) / 8) j (at / 8 * 8) (entriesOf st n) (f .all) (omega arith)
+
+pub fresh-start : {st : List ℕ} {n at k : ℕ} → RangeFresh st n at k → RangeFresh st n (at + 0) (k - 0)
+fresh-start {at = at} {k} f = rw (add-zero at, sub-zero k) f
+
+pub fresh-word : (at : ℕ) {st : List ℕ} {n k i : ℕ} → RangeFresh st n (at + i) (k - i) → i < k → added ((at + i) / 8 * 8) (entriesOf st n) ≡ 1
+fresh-word at {st} {n} {k} {i} f h =
+    let c : ℕ = wordCount (wordFrom (at + i) + 8) (k - i - (8 - (at + i) % 8)) in
+    unfold wordFrom in (fresh-first c ((at + i) / 8 * 8) (entriesOf st n) (rw (count-step (at + i) (k - i) (omega arith)) at (f .all)))
+
+pub fresh-rest : (at : ℕ) {st st′ : List ℕ} {n m k i w : ℕ} → RangeFresh st n (at + i) (k - i) → i < k → Touched st n ((at + i) / 8 * 8) w st′ m
+    → RangeFresh st′ m (at + (i + (8 - (at + i) % 8))) (k - (i + (8 - (at + i) % 8)))
+fresh-rest at {st} {st′} {n} {m} {k} {i} {w} f h t =
+    let p : ℕ = at + i in
+    let a : at + (i + (8 - p % 8)) ≡ wordFrom p + 8 = omega (arith, from-rest p) in
+    let b : k - (i + (8 - p % 8)) ≡ k - i - (8 - p % 8) = omega arith in
+    let t′ : Touched st n (wordFrom p) w st′ m = unfold wordFrom in t in
+    rw (a, b) (record { all = rw (from-step p) (fresh-behind (rw (count-step p (k - i) (omega arith)) at (f .all)) t′) })
 
 pub ranging-room : {pool st₀ : List ℕ} {n₀ at : ℕ} {xs st : List ℕ} {m i : ℕ} → Ranging pool st₀ n₀ at xs st m i → i < length xs → Room st m 1 ((at + i) / 8 * 8)
 ranging-room {at = at} {xs = xs} {i = i} f h = unfold wordFrom in (room-first (rw (count-step (at + i) (length xs - i) (omega arith)) at (f .room)))

@@ -1,13 +1,14 @@
 // A range of bytes laid over the staged view (01, "Transactions": write): the check brought up to date by signed differences, and the
 // words that hold the range touched.
 ghost use mathlib.Core.Path.{_≡_};
-ghost use Prim.Native.Nat.{_+_, _≤_};
+ghost use mathlib.Core.Bool.{true};
+ghost use Prim.Native.Nat.{_+_, _*_, _^_, _≤_, _<_};
 ghost use lib.ListN.{length, drop};
 ghost use lib.Seq.{sets};
 ghost use Rattle.rules.specs.Words.{digits, word as wordOf};
 ghost use Rattle.sums.specs.Fed.{updatedRange};
 ghost use Rattle.stage.specs.View.{part, seen, Staged};
-ghost use Rattle.overwrite.specs.Range.{RangeRoom, RangeTouched};
+ghost use Rattle.overwrite.specs.Range.{RangeFresh, RangeRoom, RangeTouched};
 
 // The check after the bytes of `old` from `skip` on became `new`, as far as both go; `left` bytes stand from the first of them on.
 fn part_check(check: u32, left: u16, old: &[u8], skip: usize, new: &[u8]) -> u32
@@ -32,6 +33,15 @@ fn word_check(check: u32, left: u16, word: u64, skip: usize, new: &[u8]) -> u32
     part_check(check, left, &old, skip, new)
 }
 
+// Whether none of the words that hold `n` bytes from `at` on has an entry yet.
+fn range_fresh(staging: &[u8], count: usize, at: usize, n: usize) -> bool
+    requires { ⌜ (16 * count ≤ length (now staging)) × (at + n + 7 < 2 ^ 64) ⌝ }
+    ensures { λ r. ⌜ (r ≡ true → RangeFresh (now (staging .entry)) count at n) ⌝ }
+{
+    let words = (at % 8 + n + 7) / 8;
+    stage::all_fresh(staging, count, (at / 8 * 8) as u64, words, false)
+}
+
 // The check after the staged bytes from `at` on became `bytes`, where `left` bytes stand from the first of them on.
 pub fn new_check(
     pool: &[u8],
@@ -45,11 +55,12 @@ pub fn new_check(
     requires { ⌜ Staged (now pool) (now staging) count × (at + length (now bytes) ≤ length (now pool)) × (length (now bytes) ≤ left) ⌝ }
     ensures { λ r. ⌜ r ≡ updatedRange check left (part (length (now (bytes .entry))) at (seen (now (pool .entry)) (now (staging .entry)) count)) (now (bytes .entry)) ⌝ }
 {
+    let fresh = range_fresh(staging, count, at, bytes.len());
     let mut sum = check;
     let mut i = 0;
     while i < bytes.len() {
         let skip = (at + i) % 8;
-        let word = stage::staged_word(pool, staging, count, (at + i) / 8 * 8);
+        let word = stage::known_word(pool, staging, count, (at + i) / 8 * 8, fresh);
         sum = word_check(sum, left - (i as u16), word, skip, &bytes[i..]);
         i += 8 - skip;
     }
@@ -85,17 +96,18 @@ pub fn touch_range(pool: &[u8], staging: &mut [u8], count: usize, at: usize, byt
     requires { ⌜ Staged (now pool) (now staging) count × RangeRoom (now pool) (now staging) count at (length (now bytes)) ⌝ }
     ensures { λ r. ⌜ RangeTouched (now (pool .entry)) (now (staging .entry)) count at (now (bytes .entry)) (now (staging .exit)) r ⌝ }
 {
+    let fresh = range_fresh(staging, count, at, bytes.len());
     let mut n = count;
     let mut done = 0;
     while done < bytes.len() {
         let skip = (at + done) % 8;
         let from = (at + done) / 8 * 8;
         let word = lay_word(
-            stage::staged_word(pool, staging, n, from),
+            stage::known_word(pool, staging, n, from, fresh),
             skip,
             &bytes[done..],
         );
-        n = stage::touch(staging, n, from as u64, word);
+        n = stage::touch_known(staging, n, from as u64, word, fresh);
         done += 8 - skip;
     }
     n

@@ -1,5 +1,5 @@
 -- A run found by its cell, and joined with its free neighbours. Assumes nothing.
-use Prim.Native.Nat.{ℕ, _+_, _-_, _≤_, _<_}
+use Prim.Native.Nat.{ℕ, _+_, _-_, _*_, _≤_, _<_}
 use mathlib.Core.Path.{_≡_, refl, sym, ap, ap₂, _∙_, subst}
 use mathlib.Core.Bool.{Bool, true, false}
 use mathlib.Core.Option.{none, some}
@@ -9,22 +9,23 @@ use lib.Dec.{eqb}
 use borrow.Author.Tests.{eq-eqb, ne-eqb}
 use Rattle.rules.specs.Runs.{Run, Walk, cells, free, isFree, object}
 use Rattle.rules.specs.Search.{Place, freeCells, joined, lead, runAt}
-use Rattle.runs.specs.Rest.{Passed, Zoned, restOf, walkOf, walkOn}
-use Rattle.runs.specs.Spotted.{Coming, Joined, Lead, Spotted, Stands, freeOf}
-use Rattle.runs.proofs.Rest.{walk-end, walk-start}
+use Rattle.stage.specs.Clear.{Clear}
+use Rattle.runs.specs.Rest.{Meets, Passed, Zoned, restOf, walkOf, walkOn}
+use Rattle.runs.specs.Spotted.{Came, Coming, Joined, Lead, Located, Spotted, Stands, freeOf}
+use Rattle.runs.proofs.Rest.{walk-broken, walk-end, walk-start}
 
-pub coming-start : (v : List ℕ) (from n a : ℕ) → walkOf v from n .whole ≡ true → Coming v from n a 0 0 false
-coming-start v from n a e =
+pub coming-start : (v : List ℕ) (from n a : ℕ) → Coming v from n a 0 0 false
+coming-start v from n a =
     let w = walk-start v from n in
     record {
       within = omega arith;
       low = omega arith;
-      whole = ap (λ (x : Walk). x .whole) w ∙ e;
+      whole = ap (λ (x : Walk). x .whole) w;
       seek = ap (λ (x : Walk). runAt a 0 (x .runs)) w;
       join = ap (λ (x : Walk). joined a 0 0 (x .runs)) w;
     }
 
-free-of : (r : Run) (m : ℕ) (f : Bool) → cells r ≡ m → isFree r ≡ f → freeOf m f ≡ freeCells r
+pub free-of : (r : Run) (m : ℕ) (f : Bool) → cells r ≡ m → isFree r ≡ f → freeOf m f ≡ freeCells r
 unfolding freeOf
 free-of (free n) m f p q = rw (← q, ← p)
 free-of (object n t b g) m f p q = rw (← q)
@@ -71,6 +72,33 @@ spotted-here {v} {from} {n} {a} {p} {c} {f} {m} {g} k e d =
       present = λ x. record { after = f; coming = subst (λ (y : ℕ). Coming v from n a p y f) e k; passed = subst (λ (y : ℕ). Passed v from n y f m g) e d };
     }
 
+-- ---- the zone judged whole on the way
+
+module _ {v : List ℕ} {from n a p c : ℕ} {f : Bool} (k : Coming v from n a p c f) where
+  pub coming-broken : {m : ℕ} {g : Bool} → Zoned v from n → c < n → Meets v from n c f m g → m ≡ 0 → walkOf v from n .whole ≡ false
+  coming-broken z h e q = sym (k .whole) ∙ ap (λ (w : Walk). w .whole) (walk-broken z h e q)
+
+  pub came-here : {st : List ℕ} {i next : ℕ} → a ≤ c → Clear st i (from + 64 * c) next → Came v st i from n a true p c f next
+  came-here h l = record { broken = λ e. let z : _≡_ {A = ℕ} 0 1 = cc in absurd (omega arith); coming = λ e. k; past = λ e. h; clear = λ e. l }
+
+  pub located-none : {x : Bool} → a < c → x ≡ walkOn f (restOf v from n c) .whole → Located v from n a x 0 0 false
+  located-none h e = record { whole-is = e ∙ k .whole; spotted = λ y. spotted-none k h refl }
+
+  pub located-here : {x : Bool} {m : ℕ} {g : Bool} → c ≡ a → Passed v from n c f m g → x ≡ walkOn g (restOf v from n (c + m)) .whole → Located v from n a x p m g
+  located-here q d e = record { whole-is = e ∙ sym (d .whole) ∙ k .whole; spotted = λ y. spotted-here k q d }
+
+pub came-broken : {v st : List ℕ} {i from n a p c next : ℕ} {f : Bool} → walkOf v from n .whole ≡ false → Came v st i from n a false p c f next
+came-broken e =
+    record {
+      broken = λ y. e;
+      coming = λ y. let z : _≡_ {A = ℕ} 0 1 = cc in absurd (omega arith);
+      past = λ y. let z : _≡_ {A = ℕ} 0 1 = cc in absurd (omega arith);
+      clear = λ y. let z : _≡_ {A = ℕ} 0 1 = cc in absurd (omega arith);
+    }
+
+pub located-broken : {v : List ℕ} {from n a p m : ℕ} {f : Bool} → walkOf v from n .whole ≡ false → Located v from n a false p m f
+located-broken e = record { whole-is = sym e; spotted = λ y. let z : _≡_ {A = ℕ} 0 1 = cc in absurd (omega arith) }
+
 pub stands-run : {v : List ℕ} {from n a p m : ℕ} {f : Bool} (s : Stands v from n a p m f) → runAt a 0 (walkOf v from n .runs) ≡ some (s .passed .that)
 unfolding runAt
 stands-run {a = a} s = sym (s .coming .seek) ∙ ap (runAt a a) (s .passed .runs) ∙ rw (eq-eqb a a refl)
@@ -91,8 +119,8 @@ module _ {v : List ℕ} {from n a p m : ℕ} {f : Bool} (s : Spotted v from n a 
   pub there : Stands v from n a p m f
   there = s .present (λ e. k (s .absent e))
 
-  pub there-whole : walkOn f (restOf v from n (a + m)) .whole ≡ true
-  there-whole = sym (there .passed .whole) ∙ there .coming .whole
+  pub there-whole : walkOf v from n .whole ≡ true → walkOn f (restOf v from n (a + m)) .whole ≡ true
+  there-whole e = sym (there .passed .whole) ∙ there .coming .whole ∙ e
 
   pub joined-is : {b : ℕ} → Lead v from n (a + m) f b → Joined v from n a (a - p) (p + (m + b))
   unfolding joined

@@ -1,19 +1,27 @@
 -- Where a run begins in a zone, and the free cells beside it. Assumes nothing.
-use Prim.Native.Nat.{ℕ, _+_, _≤_}
+use Prim.Native.Nat.{ℕ, _+_, _*_, _≤_}
 use mathlib.Core.Path.{_≡_}
-use mathlib.Core.Bool.{Bool, true, cond}
+use mathlib.Core.Bool.{Bool, true, false, cond}
 use mathlib.Core.Option.{none}
 use mathlib.Core.List.{List}
 use Rattle.rules.specs.Search.{joined, lead, runAt}
+use Rattle.stage.specs.Clear.{Clear}
 use Rattle.runs.specs.Rest.{Passed, restOf, walkOf, walkOn}
 
 -- The walk comes to cell c, with p free cells right before it, and looks for cell a.
 pub record Coming (v : List ℕ) (from n a p c : ℕ) (after : Bool) : Type 0 where
   pub within : c ≤ n
   pub low : p ≤ c
-  pub whole : walkOn after (restOf v from n c) .whole ≡ true
+  pub whole : walkOn after (restOf v from n c) .whole ≡ walkOf v from n .whole
   pub seek : runAt a c (walkOn after (restOf v from n c) .runs) ≡ runAt a 0 (walkOf v from n .runs)
   pub join : joined a p c (walkOn after (restOf v from n c) .runs) ≡ joined a 0 0 (walkOf v from n .runs)
+
+-- It came to the first run at or behind cell a; or, where w is false, it met a broken run before.
+pub record Came (v st : List ℕ) (k from n a : ℕ) (w : Bool) (p c : ℕ) (after : Bool) (next : ℕ) : Type 0 where
+  pub broken : w ≡ false → walkOf v from n .whole ≡ false
+  pub coming : w ≡ true → Coming v from n a p c after
+  pub past : w ≡ true → a ≤ c
+  pub clear : w ≡ true → Clear st k (from + 64 * c) next
 
 -- A run of m cells begins at cell a.
 pub record Stands (v : List ℕ) (from n a p m : ℕ) (f : Bool) : Type 0 where
@@ -25,6 +33,11 @@ pub record Stands (v : List ℕ) (from n a p m : ℕ) (f : Bool) : Type 0 where
 pub record Spotted (v : List ℕ) (from n a p m : ℕ) (f : Bool) : Type 0 where
   pub absent : m ≡ 0 → runAt a 0 (walkOf v from n .runs) ≡ none
   pub present : (m ≡ 0 → ⊥) → Stands v from n a p m f
+
+-- w tells whether the zone is unbroken; where it is, m, p and f tell of cell a.
+pub record Located (v : List ℕ) (from n a : ℕ) (w : Bool) (p m : ℕ) (f : Bool) : Type 0 where
+  pub whole-is : w ≡ walkOf v from n .whole
+  pub spotted : w ≡ true → Spotted v from n a p m f
 
 -- The free cells of a run that was met.
 unfoldable pub freeOf : ℕ → Bool → ℕ

@@ -2,11 +2,13 @@
 ghost use mathlib.Core.Path.{_≡_};
 ghost use mathlib.Core.Bool.{true};
 ghost use mathlib.Core.Option.{none};
-ghost use Prim.Native.Nat.{_+_, _*_, _%_, _≤_, _<_};
+ghost use Prim.Native.Nat.{_+_, _*_, _≤_, _<_};
 ghost use Rattle.rules.specs.Search.{runAt};
+ghost use Rattle.stage.specs.Clear.{Clear};
 ghost use Rattle.stage.specs.View.{seen, Staged};
 ghost use Rattle.runs.specs.Rest.{restOf, walkOf, walkOn, Meets, Zoned};
-ghost use Rattle.runs.specs.Spotted.{freeOf, Joined, Lead, Spotted};
+ghost use Rattle.runs.specs.Sought.{Sought};
+ghost use Rattle.runs.specs.Spotted.{freeOf, Came, Joined, Lead, Located, Spotted};
 
 // A zone's data bytes: where they start, and their cells.
 pub struct Zone {
@@ -20,8 +22,27 @@ pub struct Met {
     pub free: bool,
 }
 
-// A cell where a run may begin: the free cells right before it, the run's cells (0 where none begins), and whether it is free.
+// A run that was met on the way, and a place up to which no entry has a target from the run's first byte on.
+pub struct Step {
+    pub cells: usize,
+    pub free: bool,
+    pub next: usize,
+}
+
+// How far a walk came: whether it met no broken run, the free cells right before the cell it came to, that cell, whether a free run stands
+// before it, and a place up to which no entry has a target from there on.
+pub struct Way {
+    pub whole: bool,
+    pub prior: usize,
+    pub cell: usize,
+    pub after: bool,
+    pub next: usize,
+}
+
+// A cell where a run may begin: whether its zone is unbroken; and in an unbroken zone the free cells right before it, the run's cells (0 where
+// none begins), and whether it is free.
 pub struct Spot {
+    pub whole: bool,
     pub prior: usize,
     pub cells: usize,
     pub free: bool,
@@ -33,13 +54,21 @@ pub struct Place {
     pub count: usize,
 }
 
-// The run at cell `c`, behind a free run or not.
-pub fn meet(pool: &[u8], staging: &[u8], count: usize, zone: Zone, c: usize, after: bool) -> Met
-    requires { ⌜ Staged (now pool) (now staging) count × Zoned (now pool) (zone .from) (zone .cells) × (c < zone .cells) ⌝ }
+// The run at cell `c`, behind a free run or not, where no entry has a target from there on below `next`.
+fn meet_before(
+    pool: &[u8],
+    staging: &[u8],
+    count: usize,
+    zone: Zone,
+    c: usize,
+    after: bool,
+    next: usize,
+) -> Met
+    requires { ⌜ Staged (now pool) (now staging) count × Zoned (now pool) (zone .from) (zone .cells) × (c < zone .cells) × Clear (now staging) count (zone .from + 64 * c) next ⌝ }
     ensures { λ r. ⌜ Meets (seen (now (pool .entry)) (now (staging .entry)) count) (zone .from) (zone .cells) c after (r .cells) (r .free) ⌝ }
 {
     let from = zone.from;
-    let h = heads::read_head(pool, staging, count, from + 64 * c);
+    let h = heads::head_before(pool, staging, count, from + 64 * c, next);
     let n = h.cells();
     if zone.cells - c < n {
         return Met {
@@ -71,58 +100,210 @@ pub fn meet(pool: &[u8], staging: &[u8], count: usize, zone: Zone, c: usize, aft
     }
 }
 
-// Whether a zone is unbroken.
-pub fn unbroken(pool: &[u8], staging: &[u8], count: usize, zone: Zone) -> bool
-    requires { ⌜ Staged (now pool) (now staging) count × Zoned (now pool) (zone .from) (zone .cells) ⌝ }
-    ensures { λ r. ⌜ r ≡ walkOf (seen (now (pool .entry)) (now (staging .entry)) count) (zone .from) (zone .cells) .whole ⌝ }
+// The run at cell `c`, behind a free run or not.
+pub fn meet(pool: &[u8], staging: &[u8], count: usize, zone: Zone, c: usize, after: bool) -> Met
+    requires { ⌜ Staged (now pool) (now staging) count × Zoned (now pool) (zone .from) (zone .cells) × (c < zone .cells) ⌝ }
+    ensures { λ r. ⌜ Meets (seen (now (pool .entry)) (now (staging .entry)) count) (zone .from) (zone .cells) c after (r .cells) (r .free) ⌝ }
+{
+    meet_before(pool, staging, count, zone, c, after, 0)
+}
+
+// The same in a walk, which carries `next` along: the entries are asked only where the walk has come past it.
+pub fn advance(
+    pool: &[u8],
+    staging: &[u8],
+    count: usize,
+    zone: Zone,
+    c: usize,
+    after: bool,
+    next: usize,
+) -> Step
+    requires { ⌜ Staged (now pool) (now staging) count × Zoned (now pool) (zone .from) (zone .cells) × (c < zone .cells) × Clear (now staging) count (zone .from + 64 * c) next ⌝ }
+    ensures { λ r. ⌜ Meets (seen (now (pool .entry)) (now (staging .entry)) count) (zone .from) (zone .cells) c after (r .cells) (r .free) × Clear (now (staging .entry)) count (zone .from + 64 * c) (r .next) ⌝ }
+{
+    let from = zone.from;
+    let t = stage::target_from(staging, count, from + 64 * c, next);
+    let m = meet_before(pool, staging, count, zone, c, after, t);
+    Step {
+        cells: m.cells,
+        free: m.free,
+        next: t,
+    }
+}
+
+// The free cells of a run that was met.
+fn free_cells(cells: usize, free: bool) -> usize
+    ensures { λ r. ⌜ r ≡ freeOf cells free ⌝ }
+{
+    if free { cells } else { 0 }
+}
+
+// Whether a zone is unbroken from cell `from` on, behind a free run or not, where no entry has a target from there on below `place`.
+fn whole_from(
+    pool: &[u8],
+    staging: &[u8],
+    count: usize,
+    zone: Zone,
+    from: usize,
+    behind: bool,
+    place: usize,
+) -> bool
+    requires { ⌜ Staged (now pool) (now staging) count × Zoned (now pool) (zone .from) (zone .cells) × (from ≤ zone .cells) × Clear (now staging) count (zone .from + 64 * from) place ⌝ }
+    ensures { λ r. ⌜ r ≡ walkOn behind (restOf (seen (now (pool .entry)) (now (staging .entry)) count) (zone .from) (zone .cells) from) .whole ⌝ }
 {
     let cells = zone.cells;
-    let mut c = 0;
-    let mut after = false;
+    let mut c = from;
+    let mut after = behind;
+    let mut next = place;
     while c < cells {
-        let m = meet(pool, staging, count, zone, c, after);
+        let m = advance(pool, staging, count, zone, c, after, next);
         let n = m.cells;
         if n == 0 {
             return false;
         }
         c += n;
         after = m.free;
+        next = m.next;
     }
     true
 }
 
-// The free cells of a run that was met.
-pub fn free_cells(m: Met) -> usize
-    ensures { λ r. ⌜ r ≡ freeOf (m .cells) (m .free) ⌝ }
+// The walk to the first free run of `k` cells or more, or to the zone's end.
+fn walk_to_fit(pool: &[u8], staging: &[u8], count: usize, zone: Zone, k: usize) -> Way
+    requires { ⌜ Staged (now pool) (now staging) count × Zoned (now pool) (zone .from) (zone .cells) ⌝ }
+    ensures { λ r. ⌜ Sought (seen (now (pool .entry)) (now (staging .entry)) count) (now (staging .entry)) count (zone .from) (zone .cells) k (r .whole) (r .cell) (r .after) (r .next) ⌝ }
 {
-    if m.free { m.cells } else { 0 }
+    let cells = zone.cells;
+    let mut c = 0;
+    let mut after = false;
+    let mut next = 0;
+    while c < cells {
+        let m = advance(pool, staging, count, zone, c, after, next);
+        let n = m.cells;
+        if n == 0 {
+            return Way {
+                whole: false,
+                prior: 0,
+                cell: c,
+                after,
+                next,
+            };
+        }
+        if k <= free_cells(n, m.free) {
+            return Way {
+                whole: true,
+                prior: 0,
+                cell: c,
+                after,
+                next,
+            };
+        }
+        c += n;
+        after = m.free;
+        next = m.next;
+    }
+    Way {
+        whole: true,
+        prior: 0,
+        cell: c,
+        after,
+        next,
+    }
 }
 
-// The run of an unbroken zone that begins at cell `a`.
-pub fn locate(pool: &[u8], staging: &[u8], count: usize, zone: Zone, a: usize) -> Spot
-    requires { ⌜ Staged (now pool) (now staging) count × Zoned (now pool) (zone .from) (zone .cells) × (a < zone .cells) × (walkOf (seen (now pool) (now staging) count) (zone .from) (zone .cells) .whole ≡ true) ⌝ }
-    ensures { λ r. ⌜ Spotted (seen (now (pool .entry)) (now (staging .entry)) count) (zone .from) (zone .cells) a (r .prior) (r .cells) (r .free) ⌝ }
+// Whether a zone is unbroken, and the way to its first free run of `k` cells or more, by one walk.
+pub fn judge(pool: &[u8], staging: &[u8], count: usize, zone: Zone, k: usize) -> Way
+    requires { ⌜ Staged (now pool) (now staging) count × Zoned (now pool) (zone .from) (zone .cells) ⌝ }
+    ensures { λ r. ⌜ (r .whole ≡ walkOf (seen (now (pool .entry)) (now (staging .entry)) count) (zone .from) (zone .cells) .whole) × Sought (seen (now (pool .entry)) (now (staging .entry)) count) (now (staging .entry)) count (zone .from) (zone .cells) k (r .whole) (r .cell) (r .after) (r .next) ⌝ }
+{
+    let w = walk_to_fit(pool, staging, count, zone, k);
+    if !w.whole {
+        return w;
+    }
+    let cell = w.cell;
+    let after = w.after;
+    let next = w.next;
+    Way {
+        whole: whole_from(pool, staging, count, zone, cell, after, next),
+        prior: 0,
+        cell,
+        after,
+        next,
+    }
+}
+
+// The walk to the first run that begins at or behind cell `a`.
+fn walk_to(pool: &[u8], staging: &[u8], count: usize, zone: Zone, a: usize) -> Way
+    requires { ⌜ Staged (now pool) (now staging) count × Zoned (now pool) (zone .from) (zone .cells) × (a < zone .cells) ⌝ }
+    ensures { λ r. ⌜ Came (seen (now (pool .entry)) (now (staging .entry)) count) (now (staging .entry)) count (zone .from) (zone .cells) a (r .whole) (r .prior) (r .cell) (r .after) (r .next) ⌝ }
 {
     let mut prior = 0;
     let mut c = 0;
     let mut after = false;
+    let mut next = 0;
     while c < a {
-        let m = meet(pool, staging, count, zone, c, after);
-        prior = free_cells(m);
-        c += m.cells;
+        let m = advance(pool, staging, count, zone, c, after, next);
+        let n = m.cells;
+        if n == 0 {
+            return Way {
+                whole: false,
+                prior,
+                cell: c,
+                after,
+                next,
+            };
+        }
+        prior = free_cells(n, m.free);
+        c += n;
         after = m.free;
+        next = m.next;
     }
-    if a < c {
+    Way {
+        whole: true,
+        prior,
+        cell: c,
+        after,
+        next,
+    }
+}
+
+// The run of a zone that begins at cell `a`; the same walk judges the zone whole.
+pub fn locate(pool: &[u8], staging: &[u8], count: usize, zone: Zone, a: usize) -> Spot
+    requires { ⌜ Staged (now pool) (now staging) count × Zoned (now pool) (zone .from) (zone .cells) × (a < zone .cells) ⌝ }
+    ensures { λ r. ⌜ Located (seen (now (pool .entry)) (now (staging .entry)) count) (zone .from) (zone .cells) a (r .whole) (r .prior) (r .cells) (r .free) ⌝ }
+{
+    let w = walk_to(pool, staging, count, zone, a);
+    if !w.whole {
         return Spot {
+            whole: false,
             prior: 0,
             cells: 0,
             free: false,
         };
     }
-    let m = meet(pool, staging, count, zone, c, after);
+    let c = w.cell;
+    if a < c {
+        return Spot {
+            whole: whole_from(pool, staging, count, zone, c, w.after, w.next),
+            prior: 0,
+            cells: 0,
+            free: false,
+        };
+    }
+    let m = advance(pool, staging, count, zone, c, w.after, w.next);
+    let n = m.cells;
+    if n == 0 {
+        return Spot {
+            whole: false,
+            prior: 0,
+            cells: 0,
+            free: false,
+        };
+    }
     Spot {
-        prior,
-        cells: m.cells,
+        whole: whole_from(pool, staging, count, zone, c + n, m.free, m.next),
+        prior: w.prior,
+        cells: n,
         free: m.free,
     }
 }
@@ -136,15 +317,15 @@ fn lead(pool: &[u8], staging: &[u8], count: usize, zone: Zone, c: usize, after: 
     if cells <= c {
         return 0;
     }
-    free_cells(meet(pool, staging, count, zone, c, after))
+    let m = meet(pool, staging, count, zone, c, after);
+    free_cells(m.cells, m.free)
 }
 
-// The run at cell `a` of an unbroken zone, with the free runs before and behind it.
-pub fn joined(pool: &[u8], staging: &[u8], count: usize, zone: Zone, a: usize) -> Place
-    requires { ⌜ Staged (now pool) (now staging) count × Zoned (now pool) (zone .from) (zone .cells) × (a < zone .cells) × (walkOf (seen (now pool) (now staging) count) (zone .from) (zone .cells) .whole ≡ true) × (runAt a 0 (walkOf (seen (now pool) (now staging) count) (zone .from) (zone .cells) .runs) ≡ none → ⊥) ⌝ }
+// The run at cell `a` of an unbroken zone, located, with the free runs before and behind it.
+pub fn joined(pool: &[u8], staging: &[u8], count: usize, zone: Zone, a: usize, s: Spot) -> Place
+    requires { ⌜ Staged (now pool) (now staging) count × Zoned (now pool) (zone .from) (zone .cells) × (a < zone .cells) × (walkOf (seen (now pool) (now staging) count) (zone .from) (zone .cells) .whole ≡ true) × (runAt a 0 (walkOf (seen (now pool) (now staging) count) (zone .from) (zone .cells) .runs) ≡ none → ⊥) × Spotted (seen (now pool) (now staging) count) (zone .from) (zone .cells) a (s .prior) (s .cells) (s .free) ⌝ }
     ensures { λ r. ⌜ Joined (seen (now (pool .entry)) (now (staging .entry)) count) (zone .from) (zone .cells) a (r .cell) (r .count) ⌝ }
 {
-    let s = locate(pool, staging, count, zone, a);
     let n = s.cells;
     let prior = s.prior;
     let b = lead(pool, staging, count, zone, a + n, s.free);

@@ -82,12 +82,12 @@ counting-end i e = let q = rw e at (i .rest) in omega (arith, q)
 -- ---- the loop over a zone's runs: o objects, d of them damaged
 
 pub record Tallying (v : List ℕ) (from n c : ℕ) (a : Bool) (o d : ℕ) : Type 0 where
-  pub judging : Judging v from n c a
+  pub judging : Judging v from n 0 false c a
   pub objects : Counting (λ r. not (isFree r)) v from n c a o
   pub damaged : Counting (λ r. not (isGood r)) v from n c a d
 
 pub tallying-start : (v : List ℕ) (from n : ℕ) → Tallying v from n 0 false 0 0
-tallying-start v from n = record { judging = judging-start v from n; objects = counting-start _ v from n; damaged = counting-start _ v from n }
+tallying-start v from n = record { judging = judging-start v from n false (omega arith); objects = counting-start _ v from n; damaged = counting-start _ v from n }
 
 pub tallying-step : {v : List ℕ} {from n c : ℕ} {a : Bool} {o d m i j : ℕ} {f x : Bool} → Tallying v from n c a o d → Passed v from n c a m f
     → (i ≡ cond (not f) 1 0) × (i ≤ 1) → x ≡ damagedAt v (from + 64 * c) f → (j ≡ cond x 1 0) × (j ≤ 1) → Tallying v from n (c + m) f (o + i) (d + j)
@@ -100,23 +100,23 @@ tallying-step t p e q l =
 
 pub tallying-broken : {v : List ℕ} (st : List ℕ) {from n c : ℕ} {a : Bool} {o d m : ℕ} {f : Bool} → Tallying v from n c a o d → Zoned v from n → c < n
     → Meets (seen v st 0) from n c a m f → m ≡ 0 → Tallied v from n o d false
-tallying-broken st t z h e k =
+tallying-broken {v} st {from} {n} t z h e k =
     let w = walk-broken z h (meets-pool st e) k in
     record {
       objects = counting-end (t .objects) w;
       damaged = counting-end (t .damaged) w;
-      whole = judging-broken (t .judging) z h (meets-pool st e) k;
+      whole = judging-broken (t .judging) z h (meets-pool st e) k ∙ ap (λ (x : Walk). x .whole) (walk-start v from n);
       few = omega (arith, t .objects .few, t .judging .within);
       fewer = omega (arith, t .damaged .few, t .judging .within);
     }
 
 pub tallying-end : {v : List ℕ} {from n c : ℕ} {a : Bool} {o d : ℕ} → Tallying v from n c a o d → Zoned v from n → n ≤ c → Tallied v from n o d true
-tallying-end {c = c} {a = a} t z h =
+tallying-end {v} {from} {n} {c} {a} t z h =
     let w = walk-end c a z h in
     record {
       objects = counting-end (t .objects) w;
       damaged = counting-end (t .damaged) w;
-      whole = judging-end (t .judging) z h;
+      whole = judging-end (t .judging) z h ∙ ap (λ (x : Walk). x .whole) (walk-start v from n);
       few = omega (arith, t .objects .few, t .judging .within);
       fewer = omega (arith, t .damaged .few, t .judging .within);
     }

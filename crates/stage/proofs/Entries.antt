@@ -16,7 +16,7 @@ use Rattle.rules.proofs.Staging.{Fresh}
 use Rattle.rules.proofs.Transaction.{entries-count}
 use Rattle.stage.specs.View.{entriesOf}
 use Rattle.words.specs.Loaded.{Loaded}
-use Rattle.stage.specs.Touched.{Slot, slot}
+use Rattle.stage.specs.Touched.{Slot, added, slot}
 
 pub length-entries : (st : List ℕ) (n : ℕ) → length (entriesOf st n) ≡ n
 unfolding entriesOf
@@ -56,11 +56,11 @@ searching-step {st} {n} {o} {i} s h l q =
     let t = rw (less n i h, ne-eqb (field 8 st (16 * i)) o (λ z. q (l .value ∙ z))) at (s .rest) in
     record { le = omega arith; rest = rw m (omega (arith, t)) }
 
-pub slot-fresh : (o : ℕ) (es : List Store) → length es ≤ slot o es → Fresh o es
-unfolding slot
-slot-fresh o [] h = tt
-slot-fresh o (x ∷ xs) h =
-    split (eqb (x .at) o) (λ e. absurd (let k = rw e at h in omega arith)) (λ e. (eqb-false (x .at) o e, slot-fresh o xs (let k = rw e at h in omega arith)))
+pub fresh-added : (o : ℕ) (es : List Store) → added o es ≡ 1 → Fresh o es
+unfolding added
+fresh-added o [] h = tt
+fresh-added o (x ∷ xs) h =
+    split (eqb (x .at) o) (λ e. absurd (let k = rw e at h in omega arith)) (λ e. (eqb-false (x .at) o e, fresh-added o xs (rw e at h)))
 
 -- ---- one more entry
 
@@ -71,11 +71,11 @@ entries-more st a (suc n) =
     let e : a + 16 + 16 * n ≡ a + 16 * suc n = omega arith in
     rw (entries-more st (a + 16) n, e)
 
-pub touch-fresh : (o w : ℕ) (es : List Store) → length es ≤ slot o es → touch o w es ≡ es ++ (record { at = o; val = w } ∷ [])
-unfolding touch slot
+pub touch-fresh : (o w : ℕ) (es : List Store) → added o es ≡ 1 → touch o w es ≡ es ++ (record { at = o; val = w } ∷ [])
+unfolding touch added
 touch-fresh o w [] h = refl
 touch-fresh o w (x ∷ xs) h =
-    split (eqb (x .at) o) (λ e. absurd (let k = rw e at h in omega arith)) (λ e. rw (e, touch-fresh o w xs (let k = rw e at h in omega arith)))
+    split (eqb (x .at) o) (λ e. absurd (let k = rw e at h in omega arith)) (λ e. rw (e, touch-fresh o w xs (rw e at h)))
 
 -- ---- a store before or behind entries leaves them
 

@@ -1,3 +1,5 @@
 pub mod Entries
 pub mod View
 pub mod Touched
+pub mod Counted
+pub mod Clear

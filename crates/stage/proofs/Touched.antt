@@ -59,10 +59,10 @@ touched-old {st} {st′} {n} {o} {i} {w} h l e k q =
       most = omega arith;
     }
 
-pub touched-new : {st st′ st″ : List ℕ} {n o i w : ℕ} → 16 * (n + 1) ≤ length st → o < 2 ^ 64 → w < 2 ^ 64 → Slot st n o i → n ≤ i
+pub touched-new : {st st′ st″ : List ℕ} {n o w : ℕ} → 16 * (n + 1) ≤ length st → o < 2 ^ 64 → w < 2 ^ 64 → added o (entriesOf st n) ≡ 1
     → st′ ≡ put st (16 * n) o → st″ ≡ put st′ (16 * n + 8) w → Touched st n o w st″ (n + 1)
 unfolding entriesOf
-touched-new {st} {st′} {st″} {n} {o} {i} {w} h lo lw e k p q =
+touched-new {st} {st′} {st″} {n} {o} {w} h lo lw e p q =
     let f : st″ ≡ put (put st (16 * n) o) (16 * n + 8) w = q ∙ ap (λ (x : List ℕ). put x (16 * n + 8) w) p in
     let a : entriesAt (put (put st (16 * n) o) (16 * n + 8) w) 0 n ≡ entriesAt st 0 n =
     entries-put-other (put st (16 * n) o) 0 n (16 * n + 8) w refl (omega arith) (inr (omega arith)) ∙ entries-put-other st 0 n (16 * n) o refl (omega arith) (inr (omega arith)) in
@@ -71,7 +71,7 @@ touched-new {st} {st′} {st″} {n} {o} {i} {w} h lo lw e k p q =
     let y : word (put (put st (16 * n) o) (16 * n + 8) w) (16 * n + 8) ≡ w = word-put (put st (16 * n) o) (16 * n + 8) w (rw length-put (omega arith)) lw in
     record {
       entries = rw (f, add-one n, entries-more (put (put st (16 * n) o) (16 * n + 8) w) 0 n, a, zero-add (16 * n), x, y)
-          (sym (touch-fresh o w (entriesAt st 0 n) (rw (length-entries st n, ← (e .place)) k)));
+          (sym (touch-fresh o w (entriesAt st 0 n) e));
       grown = record {
         rest = rw f (drop-put (16 * (n + 1)) (put st (16 * n) o) (16 * n + 8) w (omega arith) ∙ drop-put (16 * (n + 1)) st (16 * n) o (omega arith));
         long = rw f (length-put (put st (16 * n) o) (16 * n + 8) w ∙ length-put st (16 * n) o);
@@ -148,7 +148,7 @@ added-touch o p w (x ∷ xs) h =
     (λ e. let q : x .at ≡ o = eqb-true (x .at) o e in rw (e, q, ne-eqb o p (λ e. omega arith)))
     (λ e. rw (e, added-touch o p w xs h))
 
-missing-touch : (n o p w : ℕ) (es : List Store) → o < p → missing n p (touch o w es) ≡ missing n p es
+pub missing-touch : (n o p w : ℕ) (es : List Store) → o < p → missing n p (touch o w es) ≡ missing n p es
 unfolding missing
 missing-touch zero o p w es h = refl
 missing-touch (suc n) o p w es h = ap₂ _+_ (added-touch o p w es h) (missing-touch n o (p + 8) w es (omega arith))
@@ -170,32 +170,14 @@ length-words (suc n) o ys es =
     let d = missing-touch n o (o + 8) (word ys 0) es (omega arith) in
     omega arith
 
-added-found : (o : ℕ) (es : List Store) → slot o es < length es → added o es ≡ 0
-unfolding slot added
-added-found o [] h = absurd (omega arith)
-added-found o (x ∷ xs) h = split (eqb (x .at) o) (λ e. rw e) (λ e. rw e (added-found o xs (let k = rw e at h in omega arith)))
-
 added-fresh : (o : ℕ) (es : List Store) → length es ≤ slot o es → added o es ≡ 1
 unfolding slot added
 added-fresh o [] h = refl
 added-fresh o (x ∷ xs) h =
     split (eqb (x .at) o) (λ e. absurd (let k = rw e at h in omega arith)) (λ e. rw e (added-fresh o xs (let k = rw e at h in omega arith)))
 
-pub added-none : {st : List ℕ} {n o i : ℕ} → Slot st n o i → i < n → 0 ≡ added o (entriesOf st n)
-added-none {st} {n} {o} e h = sym (added-found o (entriesOf st n) (rw (length-entries st n, ← (e .place)) h))
-
-pub added-one : {st : List ℕ} {n o i : ℕ} → Slot st n o i → n ≤ i → 1 ≡ added o (entriesOf st n)
-added-one {st} {n} {o} e h = sym (added-fresh o (entriesOf st n) (rw (length-entries st n, ← (e .place)) h))
-
-pub missing-step : (n o : ℕ) (es : List Store) → 0 < n → missing n o es ≡ added o es + missing (n - 1) (o + 8) es
-unfolding missing
-missing-step zero o es h = absurd (omega arith)
-missing-step (suc n) o es h = let e : suc n - 1 ≡ n = omega arith in rw e
-
-pub missing-end : (n o : ℕ) (es : List Store) → n ≤ 0 → missing n o es ≡ 0
-unfolding missing
-missing-end zero o es h = refl
-missing-end (suc n) o es h = absurd (omega arith)
+pub added-one : {st : List ℕ} {n o i : ℕ} → Slot st n o i → n ≤ i → added o (entriesOf st n) ≡ 1
+added-one {st} {n} {o} e h = added-fresh o (entriesOf st n) (rw (length-entries st n, ← (e .place)) h)
 
 -- ---- room for words that are touched
 
@@ -218,3 +200,7 @@ room-next {st} {st′} {n} {m} {k} {o} {w} r t =
     sym (length-entries st′ m) ∙ ap length (t .entries) ∙ length-touch o w (entriesOf st n) ∙ ap (λ (x : ℕ). x + added o (entriesOf st n)) (length-entries st n) in
     let b : missing k (o + 8) (entriesOf st′ m) ≡ missing k (o + 8) (entriesOf st n) = rw (t .entries) (missing-touch k o (o + 8) w (entriesOf st n) (omega arith)) in
     record { held = rw (t .grown .long, b) (let l = r .held in omega arith) }
+
+pub room-fresh : {st : List ℕ} {n o : ℕ} → Room st n 1 o → added o (entriesOf st n) ≡ 1 → 16 * (n + 1) ≤ length st
+unfolding missing
+room-fresh r e = let l = r .held in omega arith

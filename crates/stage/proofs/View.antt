@@ -18,8 +18,8 @@ use Rattle.rules.proofs.Staging.{Fresh, Tidy}
 use Rattle.rules.proofs.Stores.{bytes-lay, length-lay}
 use Rattle.stage.specs.View.{Reads, Staged, entriesOf, part, seen}
 use Rattle.words.specs.Loaded.{Loaded}
-use Rattle.stage.specs.Touched.{Slot, slot}
-use Rattle.stage.proofs.Entries.{length-entries, slot-fresh}
+use Rattle.stage.specs.Touched.{Slot, added, slot}
+use Rattle.stage.proofs.Entries.{fresh-added}
 
 pub length-seen : (pool staging : List ℕ) (n : ℕ) → length (seen pool staging n) ≡ length pool
 unfolding seen
@@ -73,11 +73,11 @@ reads-staged {pool} {st} {n} {o} {i} {r} b s p h e k l =
     word-reads (seen pool st n) o r (bytes-seen pool st n b) (rw length-seen h)
     (l .value ∙ unfold seen entriesOf word in (ap (word st) (sym (zero-add (16 * i + 8))) ∙ rw (e .place) (sym (word-found n st pool 0 o (s .tidy) p h (rw (e .place) at k)))))
 
-pub reads-pool : {pool st : List ℕ} {n o i r : ℕ} → Bytes pool → Staged pool st n → o % 8 ≡ 0 → o + 8 ≤ length pool → Slot st n o i → n ≤ i
+pub reads-pool : {pool st : List ℕ} {n o r : ℕ} → Bytes pool → Staged pool st n → o % 8 ≡ 0 → o + 8 ≤ length pool → added o (entriesOf st n) ≡ 1
     → Loaded 8 pool o r → Reads (seen pool st n) o r
-reads-pool {pool} {st} {n} {o} {i} {r} b s p h e k l =
+reads-pool {pool} {st} {n} {o} {r} b s p h e l =
     word-reads (seen pool st n) o r (bytes-seen pool st n b) (rw length-seen h)
-    (l .value ∙ unfold seen word in (sym (word-fresh (entriesOf st n) pool o (s .tidy) (slot-fresh o (entriesOf st n) (rw (length-entries st n, ← (e .place)) k)) p)))
+    (l .value ∙ unfold seen word in (sym (word-fresh (entriesOf st n) pool o (s .tidy) (fresh-added o (entriesOf st n) e) p)))
 
 -- ---- entries whose targets are good (01, refusal 10) can be read
 

@@ -5,7 +5,7 @@ use mathlib.Core.List.{List}
 use native.Mathlib.Omega.{arith}
 use lib.ListN.{length, take, drop}
 use lib.Seq.{sets}
-use Rattle.rules.specs.Words.{digits, put, word}
+use Rattle.rules.specs.Words.{digits, put}
 use Rattle.rules.specs.Runs.{checkWord}
 use Rattle.rules.specs.Staging.{Store, touch, touchRange, touchWords, wordCount, wordFrom}
 use Rattle.rules.specs.Plan.{touchWrite}

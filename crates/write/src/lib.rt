@@ -10,6 +10,7 @@ ghost use Rattle.rules.specs.Shape.{entryLimit, stagingSize};
 ghost use Rattle.rules.specs.Runs.{checkWord};
 ghost use Rattle.rules.specs.Answer.{taken};
 ghost use Rattle.rules.specs.Plan.{touchWrite, write as writeCall};
+ghost use Rattle.rules.proofs.Staging.{Tidy};
 ghost use Rattle.layout.specs.Reading.{shapeOf};
 ghost use Rattle.stage.specs.View.{entriesOf, part, seen, Staged as StagedIn};
 ghost use Rattle.answers.specs.Planned.{leftOf, planned, stageEntries, Judged};
@@ -62,7 +63,7 @@ fn check_word(
 
 // How many of the words that hold the check of the head at `h`, and `n` bytes of the body from `at` on, have no entry yet.
 fn entries_added(staging: &[u8], count: usize, h: usize, at: usize, n: usize) -> usize
-    requires { ⌜ (16 * count ≤ length (now staging)) × (h + at + n < 4294967296) ⌝ }
+    requires { ⌜ (16 * count ≤ length (now staging)) × (h + at + n < 4294967296) × Tidy (entriesOf (now staging) count) ⌝ }
     ensures { λ r. ⌜ (r ≡ addedBy h at n (entriesOf (now (staging .entry)) count)) × (r < 4294967296) ⌝ }
 {
     let from = h + (16 + at);

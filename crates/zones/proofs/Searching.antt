@@ -2,6 +2,7 @@
 use Prim.Native.Nat.{ℕ, suc, _+_, _-_, _≤_, _<_}
 use mathlib.Core.Path.{_≡_, sym, ap, _∙_}
 use mathlib.Core.Bool.{Bool, true, false, _&&_}
+use mathlib.Core.Option.{Option}
 use mathlib.Core.List.{List, _∷_}
 use native.Mathlib.Nat.{sub-zero}
 use native.Mathlib.Numerals.{add-one}
@@ -9,11 +10,12 @@ use native.Mathlib.Omega.{arith}
 use lib.Dec.{leb}
 use Rattle.rules.specs.Shape.{Shape}
 use Rattle.rules.specs.Runs.{Run, Walk, cells, free, isFree, object}
-use Rattle.rules.specs.Search.{fit}
+use Rattle.rules.specs.Search.{Place, fit}
 use Rattle.rules.specs.Zones.{walkIn, zoneData}
 use Rattle.rules.specs.Plan.{Fit, failed, fitIn, fitted, search}
 use Rattle.stage.specs.View.{part}
 use Rattle.runs.specs.Rest.{Passed, Zoned, restOf, walkOf, walkOn}
+use Rattle.runs.specs.Sought.{Seeking}
 use Rattle.runs.proofs.Rest.{walk-end, walk-start}
 use Rattle.zones.specs.Found.{ZoneIs}
 
@@ -63,6 +65,18 @@ inside-start {s} {v} {k} {z} {from} {n} o h e q p =
       le = omega arith;
       whole = ap (λ (x : Walk). x .whole) w ∙ sym q ∙ p;
       rest = rw (w, add-one z) (rw (less (s .zones) z h, walk-in v e, sym q ∙ p) at (o .rest));
+    }
+
+-- from the place where the way to the first fit ends: no run before it fits
+pub inside-seek : {s : Shape} {v : List ℕ} {k z from n c : ℕ} {x a : Bool} → Outside s v k z → z < s .zones → ZoneIs s z from n → x ≡ walkOf v from n .whole → x ≡ true
+    → Seeking v from n k c a → Inside s v k z from n c a
+unfolding runsFrom
+inside-seek {s} {v} {k} {z} {from} {n} o h e q p g =
+    let f = g .same ∙ sym (ap (λ (w : Walk). fit k 0 (w .runs)) (walk-start v from n)) in
+    record {
+      le = g .within;
+      whole = g .whole ∙ sym q ∙ p;
+      rest = ap (λ (y : Option Place). fitIn z y (zonesFrom s v k (z + 1))) f ∙ inside-start o h e q p .rest;
     }
 
 passes : (s : Shape) (v : List ℕ) (k z c : ℕ) (r : Run) (rs : List Run) (m : ℕ) → (isFree r && leb k m) ≡ false → cells r ≡ m → runsFrom s v k z c (r ∷ rs) ≡ runsFrom s v k z (c + m) rs

@@ -8,10 +8,10 @@ ghost use Rattle.rules.specs.Zones.{headAt};
 ghost use Rattle.rules.specs.Plan.{search as searchFrom};
 ghost use Rattle.stage.specs.View.{seen, Staged};
 ghost use Rattle.layout.specs.Reading.{shapeOf, InRange, Shaped};
-ghost use Rattle.zones.specs.Found.{foundOf, NamesAt, ZoneIs};
+ghost use Rattle.zones.specs.Found.{foundOf, NamesAt, SpotAt, ZoneIs};
 use layout::Shape;
 use objects::Named;
-use runs::Met;
+use runs::Spot;
 use runs::Zone;
 
 // A free run that fits: its zone, first cell and cells; or a refusal's number.
@@ -32,16 +32,17 @@ pub fn zone(s: Shape, z: usize) -> Zone
 }
 
 // A free run of `k` cells or more.
-fn fits(m: Met, k: usize) -> bool
-    ensures { λ r. ⌜ r ≡ (m .free && leb k (m .cells)) ⌝ }
+fn fits(cells: usize, free: bool, k: usize) -> bool
+    ensures { λ r. ⌜ r ≡ (free && leb k cells) ⌝ }
 {
-    if m.free {
-        return k <= m.cells;
+    if free {
+        return k <= cells;
     }
     false
 }
 
-// The lowest zone's lowest free run of `k` cells or more; each zone is first judged whole.
+// The lowest zone's lowest free run of `k` cells or more; each zone is first judged whole, by a walk that also finds the way
+// to its first fit.
 pub fn search(pool: &[u8], staging: &[u8], count: usize, s: Shape, k: usize) -> Found
     requires { ⌜ Staged (now pool) (now staging) count × Shaped (now pool) (shapeOf s) ⌝ }
     ensures { λ r. ⌜ foundOf r ≡ searchFrom (shapeOf s) (seen (now (pool .entry)) (now (staging .entry)) count) k 0 (s .zones) ⌝ }
@@ -52,20 +53,23 @@ pub fn search(pool: &[u8], staging: &[u8], count: usize, s: Shape, k: usize) -> 
     let mut n = 0;
     'search: while z < zones {
         let place = zone(s, z);
-        if !runs::unbroken(pool, staging, count, place) {
+        let way = runs::judge(pool, staging, count, place, k);
+        if !way.whole {
             return Found::Refused(23);
         }
         let cells = place.cells;
-        let mut after = false;
-        c = 0;
+        let mut after = way.after;
+        let mut next = way.next;
+        c = way.cell;
         while c < cells {
-            let m = runs::meet(pool, staging, count, place, c, after);
+            let m = runs::advance(pool, staging, count, place, c, after, next);
             n = m.cells;
-            if fits(m, k) {
+            if fits(n, m.free, k) {
                 break 'search;
             }
             c += n;
             after = m.free;
+            next = m.next;
         }
         z += 1;
     }
@@ -76,20 +80,45 @@ pub fn search(pool: &[u8], staging: &[u8], count: usize, s: Shape, k: usize) -> 
     }
 }
 
-// The object at the cell address `a`, or the first refusal of 5, 23, 24, 25.
-pub fn object_at(pool: &[u8], staging: &[u8], count: usize, s: Shape, a: usize) -> Named
+// The cell at the cell address `a`, located in its zone; nothing is told of an address past the zones.
+pub fn spot_at(pool: &[u8], staging: &[u8], count: usize, s: Shape, a: usize) -> Spot
     requires { ⌜ Staged (now pool) (now staging) count × Shaped (now pool) (shapeOf s) ⌝ }
+    ensures { λ r. ⌜ SpotAt (shapeOf s) (seen (now (pool .entry)) (now (staging .entry)) count) a (r .whole) (r .prior) (r .cells) (r .free) ⌝ }
+{
+    let cells = s.cells();
+    if s.zones * cells <= a {
+        return Spot {
+            whole: false,
+            prior: 0,
+            cells: 0,
+            free: false,
+        };
+    }
+    runs::locate(pool, staging, count, zone(s, a / cells), a % cells)
+}
+
+// The object at the cell address `a`, located, or the first refusal of 5, 23, 24, 25.
+pub fn object_in(pool: &[u8], staging: &[u8], count: usize, s: Shape, a: usize, p: Spot) -> Named
+    requires { ⌜ Staged (now pool) (now staging) count × Shaped (now pool) (shapeOf s) × SpotAt (shapeOf s) (seen (now pool) (now staging) count) a (p .whole) (p .prior) (p .cells) (p .free) ⌝ }
     ensures { λ r. ⌜ NamesAt (shapeOf s) (seen (now (pool .entry)) (now (staging .entry)) count) a r ⌝ }
 {
     let cells = s.cells();
     if s.zones * cells <= a {
         return Named::Refused(5);
     }
-    let place = zone(s, a / cells);
-    if !runs::unbroken(pool, staging, count, place) {
+    if !p.whole {
         return Named::Refused(23);
     }
-    objects::in_zone(pool, staging, count, place, a % cells)
+    objects::in_zone(pool, staging, count, zone(s, a / cells), a % cells, p)
+}
+
+// The object at the cell address `a`, or the first refusal of 5, 23, 24, 25.
+pub fn object_at(pool: &[u8], staging: &[u8], count: usize, s: Shape, a: usize) -> Named
+    requires { ⌜ Staged (now pool) (now staging) count × Shaped (now pool) (shapeOf s) ⌝ }
+    ensures { λ r. ⌜ NamesAt (shapeOf s) (seen (now (pool .entry)) (now (staging .entry)) count) a r ⌝ }
+{
+    let p = spot_at(pool, staging, count, s, a);
+    object_in(pool, staging, count, s, a, p)
 }
 
 // Where the head of the object at the cell address `a` lies.

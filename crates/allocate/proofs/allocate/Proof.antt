@@ -74,7 +74,7 @@ place-requires c κs =
     let s = w .before .before .before .before .before in
     let f = fit-at (w .free-run .result) (w .free-run .ensures) (g .found .given .1) in
     let b = fit-small (s .args .s) (s .pre .shaped .range) f in
-    record { few = s .pre .few; room = s .pre .room; small = f .small; low = omega (arith, b, c .before .before .before .zone-at .ensures .1); short = omega (arith, b) }
+    record { few = s .pre .few; tidy = s .pre .staged .tidy; room = s .pre .room; small = f .small; low = omega (arith, b, c .before .before .before .zone-at .ensures .1); short = omega (arith, b) }
 
 enum-known-found-2 : tie.Need-enum-known-found-2
 enum-known-found-2 c = search needs

@@ -13,6 +13,15 @@ Inv-loop body at word₀ i₀ word i = (i ≤ 8) × Loaded (8 - i) body (at + i)
 abbrev μ-loop : tie.MeasureT-loop
 μ-loop body at word₀ i₀ word i = i
 
+add-if1 : tie.Need-add-if1 Inv-loop μ-loop
+add-if1 c = search needs
+
+load64-requires : tie.Need-load64-requires Inv-loop μ-loop
+load64-requires c κs = search needs
+
+returns : tie.Need-returns Inv-loop μ-loop
+returns c = c .load64 .ensures
+
 loop-holds : tie.Need-loop-holds Inv-loop μ-loop
 loop-holds c = (omega arith, loaded-none _ _)
 
@@ -28,13 +37,13 @@ body-byte-requires c κs = search needs
 mul-word : tie.Need-mul-word Inv-loop μ-loop
 mul-word c =
     let l = c .before .before .loop in
-    let u = loaded-more (c .before .before .before .before .args .at) (l .i) (c .before .loop-test .taken) (l .inv .0) (l .inv .1) (c .body-byte .ensures) in
+    let u = loaded-more (c .before .before .before .before .before .args .at) (l .i) (c .before .loop-test .taken) (l .inv .0) (l .inv .1) (c .body-byte .ensures) in
     omega (arith, loaded-small (let b : 8 - (l .i - 1) ≤ 8 = omega arith in b) u)
 
 add-word : tie.Need-add-word Inv-loop μ-loop
 add-word c =
     let l = c .before .before .loop in
-    let u = loaded-more (c .before .before .before .before .args .at) (l .i) (c .before .loop-test .taken) (l .inv .0) (l .inv .1) (c .body-byte .ensures) in
+    let u = loaded-more (c .before .before .before .before .before .args .at) (l .i) (c .before .loop-test .taken) (l .inv .0) (l .inv .1) (c .body-byte .ensures) in
     omega (arith, loaded-small (let b : 8 - (l .i - 1) ≤ 8 = omega arith in b) u)
 
 loop-less : tie.Need-loop-less Inv-loop μ-loop
@@ -43,11 +52,11 @@ loop-less c = search needs
 loop-again : tie.Need-loop-again Inv-loop μ-loop
 loop-again c =
     let l = c .before .before .loop in
-    let u = loaded-more (c .before .before .before .before .args .at) (l .i) (c .before .loop-test .taken) (l .inv .0) (l .inv .1) (c .body-byte .ensures) in
+    let u = loaded-more (c .before .before .before .before .before .args .at) (l .i) (c .before .loop-test .taken) (l .inv .0) (l .inv .1) (c .body-byte .ensures) in
     (let h = l .inv .0 in omega arith, u)
 
-returns : tie.Need-returns Inv-loop μ-loop
-returns c = loaded-whole _ (c .before .loop .i) (c .loop-test .left) (c .before .loop .inv .1)
+returns-2 : tie.Need-returns-2 Inv-loop μ-loop
+returns-2 c = loaded-whole _ (c .before .loop .i) (c .loop-test .left) (c .before .loop .inv .1)
 
 pub body-word-spec : {M : Type 1} → statement M
 body-word-spec =
@@ -55,6 +64,9 @@ body-word-spec =
     (tie.spec
     Inv-loop
     μ-loop
+    add-if1
+    load64-requires
+    returns
     loop-holds
     sub-i
     add-body-byte
@@ -63,4 +75,4 @@ body-word-spec =
     add-word
     loop-less
     loop-again
-    returns)
+    returns-2)

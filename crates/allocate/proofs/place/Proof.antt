@@ -1,6 +1,7 @@
 -- `allocate::place` meets its contract. Assumes nothing.
-use Rattle.allocate.proofs.Placed.{place-many, place-stored, room-object, room-rest}
+use Rattle.allocate.proofs.Placed.{fresh-left, fresh-object, place-many, place-stored, room-object, room-rest}
 use native.Mathlib.Omega.{arith}
+use borrow.Author.Tests.{eqb-true}
 use borrow.Author.Needs.{needs}
 use Rattle.allocate.proofs.place.Statement.{statement}
 use Rattle.allocate.proofs.place.Tie as tie
@@ -35,7 +36,7 @@ touch-object-requires : tie.Need-touch-object-requires
 touch-object-requires c κs =
     let b = c .before .before in
     let s = b .before .before .before .before .before .before in
-    (room-object _ _ _ _ (s .args .tag) (s .args .body .now) (b .before .before .before .cells-for .ensures .0) (b .before .before .free-words .ensures .0) (b .fresh-words .ensures .0) (s .pre .room) (omega arith), s .pre .small, s .pre .low)
+    (room-object _ _ _ _ (s .args .tag) (s .args .body .now) (b .before .before .before .cells-for .ensures .0) (b .before .before .free-words .ensures .0) (b .fresh-words .ensures .0) (s .pre .room) (omega arith), s .pre .small, s .pre .low, λ f. fresh-object _ _ _ _ (s .args .tag) (s .args .body .now) (b .before .before .before .cells-for .ensures .0) (b .before .before .free-words .ensures .0) (b .fresh-words .ensures .0) (eqb-true _ _ f))
 
 mul-touch-rest : tie.Need-mul-touch-rest
 mul-touch-rest c = search needs
@@ -48,7 +49,7 @@ touch-rest-requires c κs =
     let t = c .before .before .before in
     let b = t .before .before .before in
     let s = b .before .before .before .before .before .before in
-    (room-rest _ _ _ _ _ _ (b .before .before .before .cells-for .ensures .0) (b .before .before .free-words .ensures .0) (b .fresh-words .ensures .0) (s .pre .room) (omega arith) (t .touch-object .ensures), s .pre .short, search needs)
+    (room-rest _ _ _ _ _ _ (b .before .before .before .cells-for .ensures .0) (b .before .before .free-words .ensures .0) (b .fresh-words .ensures .0) (s .pre .room) (omega arith) (t .touch-object .ensures), s .pre .short, search needs, λ f. fresh-left _ _ _ _ _ _ (b .before .before .before .cells-for .ensures .0) (b .before .before .free-words .ensures .0) (b .fresh-words .ensures .0) (eqb-true _ _ f) (t .touch-object .ensures))
 
 same-length-2 : tie.Need-same-length-2
 same-length-2 c = search needs

@@ -2,7 +2,8 @@
 use borrow.Author.Needs.{needs}
 use Prim.Native.Nat.{_-_, _≤_}
 use Rattle.stage.specs.Touched.{TouchedWords}
-use Rattle.stage.proofs.Touched.{touched-none}
+use Rattle.stage.proofs.Counted.{fresh-next}
+use Rattle.stage.proofs.Touched.{room-count, touched-none}
 use Rattle.allocate.proofs.Body.{touched-word}
 use Rattle.allocate.proofs.Rows.{room-within, touched-whole}
 use native.Mathlib.Omega.{arith}
@@ -10,19 +11,16 @@ use Rattle.allocate.proofs.touch_body.Statement.{statement}
 use Rattle.allocate.proofs.touch_body.Tie as tie
 
 abbrev Inv-loop : tie.InvT-loop
-Inv-loop staging₀ count target words body n₀ i₀ staging n i = (i ≤ words) × TouchedWords staging₀ count i target body staging n
+Inv-loop staging₀ count target words body known fresh n₀ i₀ staging n i = (i ≤ words) × TouchedWords staging₀ count i target body staging n
 
 abbrev μ-loop : tie.MeasureT-loop
-μ-loop staging₀ count target words body n₀ i₀ staging n i = words - i
+μ-loop staging₀ count target words body known fresh n₀ i₀ staging n i = words - i
+
+all-fresh-requires : tie.Need-all-fresh-requires Inv-loop μ-loop
+all-fresh-requires c κs = let s = c .before .before .before in (room-count (s .pre .0), search needs, s .pre .3)
 
 loop-holds : tie.Need-loop-holds Inv-loop μ-loop
 loop-holds c = (omega arith, touched-none _ _ _ _)
-
-mul-touch : tie.Need-mul-touch Inv-loop μ-loop
-mul-touch c = search needs
-
-add-touch : tie.Need-add-touch Inv-loop μ-loop
-add-touch c = search needs
 
 mul-body-word : tie.Need-mul-body-word Inv-loop μ-loop
 mul-body-word c = search needs
@@ -30,8 +28,17 @@ mul-body-word c = search needs
 body-word-requires : tie.Need-body-word-requires Inv-loop μ-loop
 body-word-requires c κs = search needs
 
-touch-requires : tie.Need-touch-requires Inv-loop μ-loop
-touch-requires c κs = room-within (c .before .before .before .before .before .before .pre .0) (c .before .before .loop-test .taken) (c .before .before .before .loop .inv .1)
+mul-touch-known : tie.Need-mul-touch-known Inv-loop μ-loop
+mul-touch-known c = search needs
+
+add-touch-known : tie.Need-add-touch-known Inv-loop μ-loop
+add-touch-known c = search needs
+
+touch-known-requires : tie.Need-touch-known-requires Inv-loop μ-loop
+touch-known-requires c κs =
+    let t = c .before .before in
+    let l = t .before in
+    (room-within (l .before .before .before .before .before .pre .0) (t .loop-test .taken) (l .loop .inv .1), λ f. fresh-next (l .before .all-fresh .ensures f) (t .loop-test .taken) (l .loop .inv .1) (omega arith))
 
 add-i : tie.Need-add-i Inv-loop μ-loop
 add-i c = search needs
@@ -41,8 +48,8 @@ loop-less c = search needs
 
 loop-again : tie.Need-loop-again Inv-loop μ-loop
 loop-again c =
-    let b = c .before .before .before in
-    (search needs, touched-word (b .before .before .before .loop .inv .1) (b .body-word .ensures) (c .before .before .touch .ensures) (omega arith) (omega arith))
+    let b = c .before .before .before .before in
+    (search needs, touched-word (b .before .before .loop .inv .1) (b .body-word .ensures) (c .before .before .touch-known .ensures) (omega arith) (omega arith))
 
 same-length : tie.Need-same-length Inv-loop μ-loop
 same-length c = search needs
@@ -56,12 +63,13 @@ touch-body-spec =
     (tie.spec
     Inv-loop
     μ-loop
+    all-fresh-requires
     loop-holds
-    mul-touch
-    add-touch
     mul-body-word
     body-word-requires
-    touch-requires
+    mul-touch-known
+    add-touch-known
+    touch-known-requires
     add-i
     loop-less
     loop-again

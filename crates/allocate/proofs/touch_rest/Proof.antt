@@ -11,7 +11,8 @@ free-head-requires c κs = search needs
 touch-head-requires : tie.Need-touch-head-requires
 touch-head-requires c κs =
     let s = c .before .before .before .before in
-    (rw (free-some (s .args .cells) (omega arith)) (s .pre .0), s .pre .2)
+    let e = free-some (s .args .cells) (omega arith) in
+    (rw e (s .pre .0), s .pre .2, λ f. rw e (s .pre .3 f))
 
 same-length : tie.Need-same-length
 same-length c = search needs

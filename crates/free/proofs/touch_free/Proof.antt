@@ -1,4 +1,6 @@
 -- `free::touch_free` meets its contract. Assumes nothing.
+use mathlib.Core.Path.{sym, _∙_}
+use borrow.Author.Tests.{eqb-true}
 use Rattle.free.proofs.Freeing.{free-many, free-stored}
 use native.Mathlib.Omega.{arith}
 use borrow.Author.Needs.{needs}
@@ -21,7 +23,9 @@ free-head-requires : tie.Need-free-head-requires
 free-head-requires c κs = search needs
 
 touch-head-requires : tie.Need-touch-head-requires
-touch-head-requires c κs = search needs
+touch-head-requires c κs =
+    let w = c .before .before .before .fresh-words .ensures .0 in
+    (search needs, search needs, λ f. sym w ∙ eqb-true _ 2 f)
 
 same-length-2 : tie.Need-same-length-2
 same-length-2 c = search needs

@@ -17,6 +17,12 @@ Inv-loop pool staging count from n sums₀ at₀ left₀ sums at left =
 abbrev μ-loop : tie.MeasureT-loop
 μ-loop pool staging count from n sums₀ at₀ left₀ sums at left = left
 
+add-if1 : tie.Need-add-if1 Inv-loop μ-loop
+add-if1 c = search needs
+
+next-target-requires : tie.Need-next-target-requires Inv-loop μ-loop
+next-target-requires c κs = omega (arith, c .before .before .pre .0 .room)
+
 add-feed : tie.Need-add-feed Inv-loop μ-loop
 add-feed c = search needs
 
@@ -33,13 +39,13 @@ feed-requires : tie.Need-feed-requires Inv-loop μ-loop
 feed-requires c κs = search needs
 
 returns : tie.Need-returns Inv-loop μ-loop
-returns c = let s = c .before .before .before .before .before in fed-pool (s .args .pool .now) (s .args .staging .now) (s .args .from) (s .args .n) (c .before .before .if1 .taken) (c .feed .ensures)
+returns c = let s = c .before .before .before .before .before .before in fed-pool (s .args .n) (s .pre .0) (s .pre .1) (c .before .before .if1 .taken) (c .before .before .before .next-target .ensures) (c .feed .ensures)
 
 loop-holds : tie.Need-loop-holds Inv-loop μ-loop
-loop-holds c = let s = c .before .before .before in (s .pre .1, s .pre .2, feeding-start _ _ _ (s .pre .3))
+loop-holds c = let s = c .before .before .before .before in (s .pre .1, s .pre .2, feeding-start _ _ _ (s .pre .3))
 
 staged-word-requires : tie.Need-staged-word-requires Inv-loop μ-loop
-staged-word-requires c κs = let s = c .before .before .before .before .before in (s .pre .0, c .before .loop .inv .0, omega arith)
+staged-word-requires c κs = let s = c .before .before .before .before .before .before in (s .pre .0, c .before .loop .inv .0, omega arith)
 
 feed-word-requires : tie.Need-feed-word-requires Inv-loop μ-loop
 feed-word-requires c κs = (c .before .before .loop .inv .2 .below, omega arith)
@@ -57,7 +63,7 @@ returns-2 : tie.Need-returns-2 Inv-loop μ-loop
 returns-2 c = feeding-end (c .before .before .loop .inv .2) (c .if2 .taken)
 
 staged-word-requires-2 : tie.Need-staged-word-requires-2 Inv-loop μ-loop
-staged-word-requires-2 c κs = let s = c .before .before .before .before .before .before in (s .pre .0, c .before .before .loop .inv .0, omega (arith, s .pre .0 .words))
+staged-word-requires-2 c κs = let s = c .before .before .before .before .before .before .before in (s .pre .0, c .before .before .loop .inv .0, omega (arith, s .pre .0 .words))
 
 feed-word-requires-2 : tie.Need-feed-word-requires-2 Inv-loop μ-loop
 feed-word-requires-2 c κs = (c .before .before .before .loop .inv .2 .below, omega arith)
@@ -75,6 +81,8 @@ feed-part-spec =
     (tie.spec
     Inv-loop
     μ-loop
+    add-if1
+    next-target-requires
     add-feed
     sub-feed
     part-feed-start

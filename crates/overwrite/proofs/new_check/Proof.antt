@@ -1,18 +1,22 @@
 -- `overwrite::new_check` meets its contract. Assumes nothing.
-use borrow.Author.Needs.{needs}
 use Prim.Native.Nat.{_-_}
 use lib.ListN.{length, length-drop}
 use Rattle.stage.specs.View.{seen}
 use Rattle.overwrite.proofs.Updated.{Checking, checking-start, checking-step, checking-end, rest-all}
+use Rattle.overwrite.proofs.Ranging.{fresh-within}
 use native.Mathlib.Omega.{arith}
+use borrow.Author.Needs.{needs}
 use Rattle.overwrite.proofs.new_check.Statement.{statement}
 use Rattle.overwrite.proofs.new_check.Tie as tie
 
 abbrev Inv-loop : tie.InvT-loop
-Inv-loop pool staging count check at left bytes sum₀ i₀ sum i = Checking check left (seen pool staging count) at bytes sum i
+Inv-loop pool staging count check at left bytes fresh sum₀ i₀ sum i = Checking check left (seen pool staging count) at bytes sum i
 
 abbrev μ-loop : tie.MeasureT-loop
-μ-loop pool staging count check at left bytes sum₀ i₀ sum i = length bytes - i
+μ-loop pool staging count check at left bytes fresh sum₀ i₀ sum i = length bytes - i
+
+range-fresh-requires : tie.Need-range-fresh-requires Inv-loop μ-loop
+range-fresh-requires c κs = let s = c .before .before .before in (s .pre .0 .room, omega (arith, s .pre .0 .words))
 
 loop-holds : tie.Need-loop-holds Inv-loop μ-loop
 loop-holds c = checking-start _ _ _ _ _
@@ -20,16 +24,16 @@ loop-holds c = checking-start _ _ _ _ _
 add-skip : tie.Need-add-skip Inv-loop μ-loop
 add-skip c = search needs
 
-add-staged-word : tie.Need-add-staged-word Inv-loop μ-loop
-add-staged-word c = search needs
+add-known-word : tie.Need-add-known-word Inv-loop μ-loop
+add-known-word c = search needs
 
-mul-staged-word : tie.Need-mul-staged-word Inv-loop μ-loop
-mul-staged-word c = search needs
+mul-known-word : tie.Need-mul-known-word Inv-loop μ-loop
+mul-known-word c = search needs
 
-staged-word-requires : tie.Need-staged-word-requires Inv-loop μ-loop
-staged-word-requires c κs =
-    let s = c .before .before .before .before .before in
-    (s .pre .0, omega arith, omega (arith, s .pre .0 .words))
+known-word-requires : tie.Need-known-word-requires Inv-loop μ-loop
+known-word-requires c κs =
+    let s = c .before .before .before .before .before .before in
+    (s .pre .0, omega arith, omega (arith, s .pre .0 .words), λ f. fresh-within (c .before .before .range-fresh .ensures f) (c .loop-test .taken))
 
 cast-word-check : tie.Need-cast-word-check Inv-loop μ-loop
 cast-word-check c = search needs
@@ -59,7 +63,7 @@ loop-less : tie.Need-loop-less Inv-loop μ-loop
 loop-less c = search needs
 
 loop-again : tie.Need-loop-again Inv-loop μ-loop
-loop-again c = checking-step (c .before .before .before .before .loop .inv) (c .before .before .staged-word .ensures) (c .word-check .ensures)
+loop-again c = checking-step (c .before .before .before .before .loop .inv) (c .before .before .known-word .ensures) (c .word-check .ensures)
 
 returns : tie.Need-returns Inv-loop μ-loop
 returns c = checking-end (c .before .loop .inv) (c .loop-test .left)
@@ -70,11 +74,12 @@ new-check-spec =
     (tie.spec
     Inv-loop
     μ-loop
+    range-fresh-requires
     loop-holds
     add-skip
-    add-staged-word
-    mul-staged-word
-    staged-word-requires
+    add-known-word
+    mul-known-word
+    known-word-requires
     cast-word-check
     sub-word-check
     sub-word-check-2

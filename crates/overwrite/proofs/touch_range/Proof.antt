@@ -1,20 +1,26 @@
 -- `overwrite::touch_range` meets its contract. Assumes nothing.
-use borrow.Author.Needs.{needs}
-use Prim.Native.Nat.{_-_}
+use Prim.Native.Nat.{_+_, _-_}
+use mathlib.Core.Path.{_≡_}
+use mathlib.Core.Bool.{true}
 use lib.ListN.{length}
-use Rattle.overwrite.proofs.Ranging.{Ranging, ranging-start, ranging-step, ranging-end, ranging-room, ranging-staged}
+use Rattle.overwrite.specs.Range.{RangeFresh}
+use Rattle.overwrite.proofs.Ranging.{Ranging, fresh-rest, fresh-start, fresh-word, ranging-start, ranging-step, ranging-end, ranging-room, ranging-staged}
 use native.Mathlib.Omega.{arith}
+use borrow.Author.Needs.{needs}
 use Rattle.overwrite.proofs.touch_range.Statement.{statement}
 use Rattle.overwrite.proofs.touch_range.Tie as tie
 
 abbrev Inv-loop : tie.InvT-loop
-Inv-loop pool staging₀ count at bytes n₀ done₀ staging n done = Ranging pool staging₀ count at bytes staging n done
+Inv-loop pool staging₀ count at bytes fresh n₀ done₀ staging n done = Ranging pool staging₀ count at bytes staging n done × (fresh ≡ true → RangeFresh staging n (at + done) (length bytes - done))
 
 abbrev μ-loop : tie.MeasureT-loop
-μ-loop pool staging₀ count at bytes n₀ done₀ staging n done = length bytes - done
+μ-loop pool staging₀ count at bytes fresh n₀ done₀ staging n done = length bytes - done
+
+range-fresh-requires : tie.Need-range-fresh-requires Inv-loop μ-loop
+range-fresh-requires c κs = let s = c .before .before .before .before in (s .pre .0 .room, omega (arith, s .pre .0 .words, s .pre .1 .inside))
 
 loop-holds : tie.Need-loop-holds Inv-loop μ-loop
-loop-holds c = ranging-start _ (c .before .before .before .pre .0) (c .before .before .before .pre .1)
+loop-holds c = let s = c .before .before .before .before .before in (ranging-start _ (s .pre .0) (s .pre .1), λ f. fresh-start (c .range-fresh .ensures f))
 
 add-skip : tie.Need-add-skip Inv-loop μ-loop
 add-skip c = search needs
@@ -25,10 +31,11 @@ add-from c = search needs
 mul-from : tie.Need-mul-from Inv-loop μ-loop
 mul-from c = search needs
 
-staged-word-requires : tie.Need-staged-word-requires Inv-loop μ-loop
-staged-word-requires c κs =
-    let s = c .before .before .before .before .before .before in
-    (ranging-staged (s .pre .0) (c .before .before .loop .inv), omega arith, omega (arith, s .pre .0 .words, s .pre .1 .inside))
+known-word-requires : tie.Need-known-word-requires Inv-loop μ-loop
+known-word-requires c κs =
+    let s = c .before .before .before .before .before .before .before .before in
+    let l = c .before .before .loop in
+    (ranging-staged (s .pre .0) (l .inv .0), omega arith, omega (arith, s .pre .0 .words, s .pre .1 .inside), λ f. fresh-word (s .args .at) (l .inv .1 f) (c .before .loop-test .taken))
 
 sub-lay-word : tie.Need-sub-lay-word Inv-loop μ-loop
 sub-lay-word c = search needs
@@ -42,8 +49,10 @@ part-lay-word-end c = search needs
 lay-word-requires : tie.Need-lay-word-requires Inv-loop μ-loop
 lay-word-requires c κs = omega arith
 
-touch-requires : tie.Need-touch-requires Inv-loop μ-loop
-touch-requires c κs = ranging-room (c .before .before .before .before .before .before .loop .inv) (omega arith)
+touch-known-requires : tie.Need-touch-known-requires Inv-loop μ-loop
+touch-known-requires c κs =
+    let t = c .before .before .before .before .before in
+    (ranging-room (t .before .loop .inv .0) (omega arith), λ f. fresh-word (t .before .before .before .before .before .before .before .args .at) (t .before .loop .inv .1 f) (t .loop-test .taken))
 
 sub-done : tie.Need-sub-done Inv-loop μ-loop
 sub-done c = search needs
@@ -56,14 +65,15 @@ loop-less c = search needs
 
 loop-again : tie.Need-loop-again Inv-loop μ-loop
 loop-again c =
-    let l = c .before .before .before .before .before .before .before .before in
-    ranging-step (l .before .loop .inv) (omega arith) (search needs) (c .before .before .before .before .before .before .staged-word .ensures) (c .before .before .before .before .lay-word .ensures) (c .before .before .touch .ensures)
+    let t = c .before .before .before .before .before .before .before .before in
+    let l = t .before .loop in
+    (ranging-step (l .inv .0) (omega arith) (search needs) (c .before .before .before .before .before .before .known-word .ensures) (c .before .before .before .before .lay-word .ensures) (c .before .before .touch-known .ensures), λ f. fresh-rest (t .before .before .before .before .before .before .before .args .at) (l .inv .1 f) (t .loop-test .taken) (c .before .before .touch-known .ensures))
 
 same-length : tie.Need-same-length Inv-loop μ-loop
 same-length c = search needs
 
 returns : tie.Need-returns Inv-loop μ-loop
-returns c = ranging-end (c .before .loop .inv) (c .before .before .before .before .before .pre .1 .some) (omega arith)
+returns c = ranging-end (c .before .loop .inv .0) (c .before .before .before .before .before .before .before .pre .1 .some) (omega arith)
 
 pub touch-range-spec : {M : Type 1} → statement M
 touch-range-spec =
@@ -71,16 +81,17 @@ touch-range-spec =
     (tie.spec
     Inv-loop
     μ-loop
+    range-fresh-requires
     loop-holds
     add-skip
     add-from
     mul-from
-    staged-word-requires
+    known-word-requires
     sub-lay-word
     part-lay-word-start
     part-lay-word-end
     lay-word-requires
-    touch-requires
+    touch-known-requires
     sub-done
     add-done
     loop-less

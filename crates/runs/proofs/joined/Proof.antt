@@ -4,26 +4,23 @@ use Rattle.runs.proofs.Spotted.{joined-is, there, there-whole}
 use Rattle.runs.proofs.joined.Statement.{statement}
 use Rattle.runs.proofs.joined.Tie as tie
 
-locate-requires : tie.Need-locate-requires
-locate-requires c κs = let p = c .before .before .pre in (p .0, p .1, p .2, p .3)
-
 add-lead : tie.Need-add-lead
-add-lead c = let s = c .before .before .before in let t = there (c .locate .ensures) (s .pre .4) in omega (arith, t .passed .within)
+add-lead c = let s = c .before .before in let t = there (s .pre .5) (s .pre .4) in omega (arith, t .passed .within)
 
 lead-requires : tie.Need-lead-requires
-lead-requires c κs = let s = c .before .before .before in let t = there (c .locate .ensures) (s .pre .4) in (s .pre .0, s .pre .1, t .passed .within, there-whole (c .locate .ensures) (s .pre .4))
+lead-requires c κs = let s = c .before .before in let t = there (s .pre .5) (s .pre .4) in (s .pre .0, s .pre .1, t .passed .within, there-whole (s .pre .5) (s .pre .4) (s .pre .3))
 
 sub-t10 : tie.Need-sub-t10
-sub-t10 c = let s = c .before .before .before .before in let t = there (c .before .locate .ensures) (s .pre .4) in omega (arith, t .coming .low)
+sub-t10 c = let s = c .before .before .before in let t = there (s .pre .5) (s .pre .4) in omega (arith, t .coming .low)
 
 add-t11 : tie.Need-add-t11
-add-t11 c = let s = c .before .before .before .before in let t = there (c .before .locate .ensures) (s .pre .4) in omega (arith, c .lead .ensures .within)
+add-t11 c = let s = c .before .before .before in let t = there (s .pre .5) (s .pre .4) in omega (arith, c .lead .ensures .within)
 
 add-t12 : tie.Need-add-t12
-add-t12 c = let s = c .before .before .before .before in let t = there (c .before .locate .ensures) (s .pre .4) in omega (arith, c .lead .ensures .within, t .coming .low)
+add-t12 c = let s = c .before .before .before in let t = there (s .pre .5) (s .pre .4) in omega (arith, c .lead .ensures .within, t .coming .low)
 
 returns : tie.Need-returns
-returns c = let s = c .before .before .before .before in joined-is (c .before .locate .ensures) (s .pre .4) (c .lead .ensures)
+returns c = let s = c .before .before .before in joined-is (s .pre .5) (s .pre .4) (c .lead .ensures)
 
 pub joined-spec : {M : Type 1} → statement M
-joined-spec = tie.close (tie.spec locate-requires add-lead lead-requires sub-t10 add-t11 add-t12 returns)
+joined-spec = tie.close (tie.spec add-lead lead-requires sub-t10 add-t11 add-t12 returns)

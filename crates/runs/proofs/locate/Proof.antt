@@ -1,80 +1,82 @@
 -- `runs::locate` meets its contract. Assumes nothing.
-use mathlib.Core.Path.{_≡_, refl}
-use Prim.Native.Nat.{_-_, _<_}
-use Rattle.stage.specs.View.{seen}
-use Rattle.runs.specs.Spotted.{Coming}
-use Rattle.runs.proofs.Rest.{whole-passed, zoned-seen}
-use Rattle.runs.proofs.Spotted.{coming-start, coming-step, spotted-here, spotted-none}
-use borrow.Author.Needs.{needs}
+use mathlib.Core.Path.{_≡_}
+use Prim.Native.Nat.{_<_}
+use borrow.Author.Tests.{not-false, not-true}
 use native.Mathlib.Omega.{arith}
+use Rattle.stage.proofs.Clear.{clear-later}
+use Rattle.runs.proofs.Rest.{walk-passed, zoned-seen}
+use Rattle.runs.proofs.Spotted.{coming-broken, located-broken, located-here, located-none}
 use Rattle.runs.proofs.locate.Statement.{statement}
 use Rattle.runs.proofs.locate.Tie as tie
 
-abbrev Inv-loop : tie.InvT-loop
-Inv-loop pool staging count zone a prior₀ c₀ after₀ prior c after = Coming (seen pool staging count) (zone .from) (zone .cells) a prior c after
+walk-to-requires : tie.Need-walk-to-requires
+walk-to-requires c κs = let s = c .before .before in (s .pre .0, s .pre .1, s .pre .2)
 
-abbrev μ-loop : tie.MeasureT-loop
-μ-loop pool staging count zone a prior₀ c₀ after₀ prior c after = zone .cells - c
+returns : tie.Need-returns
+returns c = let w = c .before .before .walk-to in located-broken (w .ensures .broken (not-true (w .result .whole) (c .if1 .taken)))
 
-loop-holds : tie.Need-loop-holds Inv-loop μ-loop
-loop-holds c = coming-start _ _ _ _ (c .before .before .pre .3)
-
-meet-requires : tie.Need-meet-requires Inv-loop μ-loop
-meet-requires c κs = let s = c .before .before .before .before in (s .pre .0, s .pre .1, omega arith)
-
-free-cells-requires : tie.Need-free-cells-requires Inv-loop μ-loop
-free-cells-requires c κs = search needs
-
-add-c : tie.Need-add-c Inv-loop μ-loop
-add-c c =
-    let s = c .before .before .before .before .before .before .before in
-    let l = c .before .before .before .before .loop in
-    let h : l .c < s .args .zone .cells = omega arith in
-    let p = whole-passed (zoned-seen (s .args .staging .now) (s .args .count) (s .pre .1)) h (l .inv .whole) (c .before .before .meet .ensures) in
-    omega (arith, p .within)
-
-loop-less : tie.Need-loop-less Inv-loop μ-loop
-loop-less c =
-    let s = c .before .before .before .before .before .before .before in
-    let l = c .before .before .before .before .loop in
-    let h : l .c < s .args .zone .cells = omega arith in
-    let p = whole-passed (zoned-seen (s .args .staging .now) (s .args .count) (s .pre .1)) h (l .inv .whole) (c .before .before .meet .ensures) in
-    omega (arith, p .within, p .some)
-
-loop-again : tie.Need-loop-again Inv-loop μ-loop
-loop-again c =
-    let s = c .before .before .before .before .before .before .before in
-    let l = c .before .before .before .before .loop in
-    let h : l .c < s .args .zone .cells = omega arith in
-    let p = whole-passed (zoned-seen (s .args .staging .now) (s .args .count) (s .pre .1)) h (l .inv .whole) (c .before .before .meet .ensures) in
-    coming-step (l .inv) (c .before .before .before .loop-test .taken) p (c .before .free-cells .ensures)
-
-returns : tie.Need-returns Inv-loop μ-loop
-returns c = spotted-none (c .before .before .loop .inv) (c .if1 .taken) refl
-
-meet-requires-2 : tie.Need-meet-requires-2 Inv-loop μ-loop
-meet-requires-2 c κs = let s = c .before .before .before .before .before in (s .pre .0, s .pre .1, omega arith)
-
-returns-2 : tie.Need-returns-2 Inv-loop μ-loop
-returns-2 c =
+whole-from-requires : tie.Need-whole-from-requires
+whole-from-requires c κs =
     let s = c .before .before .before .before .before .before in
-    let l = c .before .before .before .loop in
-    let e : l .c ≡ s .args .a = omega (arith, c .before .if1 .left, c .before .before .loop-test .left) in
-    let h : l .c < s .args .zone .cells = omega arith in
-    spotted-here (l .inv) e (whole-passed (zoned-seen (s .args .staging .now) (s .args .count) (s .pre .1)) h (l .inv .whole) (c .meet2 .ensures))
+    let w = c .before .before .before .walk-to in
+    let t = not-false (w .result .whole) (c .before .if1 .left) in
+    (s .pre .0, s .pre .1, w .ensures .coming t .within, w .ensures .clear t)
+
+returns-2 : tie.Need-returns-2
+returns-2 c =
+    let w = c .before .before .before .before .walk-to in
+    located-none (w .ensures .coming (not-false (w .result .whole) (c .before .before .if1 .left))) (c .before .if2 .taken) (c .whole-from .ensures)
+
+advance-requires : tie.Need-advance-requires
+advance-requires c κs =
+    let s = c .before .before .before .before .before .before in
+    let w = c .before .before .before .walk-to in
+    let t = not-false (w .result .whole) (c .before .if1 .left) in
+    (s .pre .0, s .pre .1, omega (arith, c .if2 .left, s .pre .2), w .ensures .clear t)
+
+returns-3 : tie.Need-returns-3
+returns-3 c =
+    let s = c .before .before .before .before .before .before .before .before in
+    let w = c .before .before .before .before .before .walk-to in
+    let t = not-false (w .result .whole) (c .before .before .before .if1 .left) in
+    let h : w .result .cell < s .args .zone .cells = omega (arith, c .before .before .if2 .left, s .pre .2) in
+    located-broken (coming-broken (w .ensures .coming t) (zoned-seen (s .args .staging .now) (s .args .count) (s .pre .1)) h (c .before .advance .ensures .0) (c .if3 .taken))
+
+add-whole-from : tie.Need-add-whole-from
+add-whole-from c =
+    let s = c .before .before .before .before .before .before .before .before in
+    let w = c .before .before .before .before .before .walk-to in
+    let h : w .result .cell < s .args .zone .cells = omega (arith, c .before .before .if2 .left, s .pre .2) in
+    let p = walk-passed (zoned-seen (s .args .staging .now) (s .args .count) (s .pre .1)) h (c .before .advance .ensures .0) (c .if3 .left) in
+    omega (arith, p .within, s .pre .1 .inside)
+
+whole-from-requires-2 : tie.Need-whole-from-requires-2
+whole-from-requires-2 c κs =
+    let s = c .before .before .before .before .before .before .before .before in
+    let w = c .before .before .before .before .before .walk-to in
+    let h : w .result .cell < s .args .zone .cells = omega (arith, c .before .before .if2 .left, s .pre .2) in
+    let p = walk-passed (zoned-seen (s .args .staging .now) (s .args .count) (s .pre .1)) h (c .before .advance .ensures .0) (c .if3 .left) in
+    (s .pre .0, s .pre .1, p .within, clear-later (omega arith) (c .before .advance .ensures .1))
+
+returns-4 : tie.Need-returns-4
+returns-4 c =
+    let s = c .before .before .before .before .before .before .before .before .before in
+    let w = c .before .before .before .before .before .before .walk-to in
+    let t = not-false (w .result .whole) (c .before .before .before .before .if1 .left) in
+    let h : w .result .cell < s .args .zone .cells = omega (arith, c .before .before .before .if2 .left, s .pre .2) in
+    let e : w .result .cell ≡ s .args .a = omega (arith, c .before .before .before .if2 .left, w .ensures .past t) in
+    located-here (w .ensures .coming t) e (walk-passed (zoned-seen (s .args .staging .now) (s .args .count) (s .pre .1)) h (c .before .before .advance .ensures .0) (c .before .if3 .left)) (c .whole-from2 .ensures)
 
 pub locate-spec : {M : Type 1} → statement M
 locate-spec =
     tie.close
     (tie.spec
-    Inv-loop
-    μ-loop
-    loop-holds
-    meet-requires
-    free-cells-requires
-    add-c
-    loop-less
-    loop-again
+    walk-to-requires
     returns
-    meet-requires-2
-    returns-2)
+    whole-from-requires
+    returns-2
+    advance-requires
+    returns-3
+    add-whole-from
+    whole-from-requires-2
+    returns-4)

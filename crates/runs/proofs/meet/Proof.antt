@@ -1,68 +1,14 @@
 -- `runs::meet` meets its contract. Assumes nothing.
-use Rattle.runs.proofs.Rest.{meets-after, meets-free, meets-long, meets-none, meets-object, zoned-seen}
-use borrow.Author.Needs.{needs}
+use native.Mathlib.Omega.{arith}
+use Rattle.stage.proofs.Clear.{clear-empty}
 use Rattle.runs.proofs.meet.Statement.{statement}
 use Rattle.runs.proofs.meet.Tie as tie
 
-mul-read-head : tie.Need-mul-read-head
-mul-read-head c = search needs
-
-add-read-head : tie.Need-add-read-head
-add-read-head c = search needs
-
-read-head-requires : tie.Need-read-head-requires
-read-head-requires c κs = search needs
-
-cells-requires : tie.Need-cells-requires
-cells-requires c κs = search needs
-
-sub-if1 : tie.Need-sub-if1
-sub-if1 c = search needs
+meet-before-requires : tie.Need-meet-before-requires
+meet-before-requires c κs = let s = c .before .before in (s .pre .0, s .pre .1, s .pre .2, clear-empty (s .args .staging .now) (s .args .count) (omega arith))
 
 returns : tie.Need-returns
-returns c =
-    let s = c .before .before .before .before .before .before in
-    meets-long (zoned-seen (s .args .staging .now) (s .args .count) (s .pre .1)) (s .pre .2) _ (c .before .before .before .read-head .ensures) (c .before .before .cells .ensures .0) (c .if1 .taken)
-
-free-ok-requires : tie.Need-free-ok-requires
-free-ok-requires c κs = search needs
-
-returns-2 : tie.Need-returns-2
-returns-2 c =
-    let s = c .before .before .before .before .before .before .before .before .before in
-    meets-after (zoned-seen (s .args .staging .now) (s .args .count) (s .pre .1)) (s .pre .2) _ (c .before .before .before .before .before .before .read-head .ensures) (c .before .before .before .before .before .cells .ensures .0) (c .before .before .before .if1 .left) (c .before .before .free-ok .ensures) (c .before .if2 .taken) (c .if3 .taken)
-
-returns-3 : tie.Need-returns-3
-returns-3 c =
-    let s = c .before .before .before .before .before .before .before .before .before in
-    meets-free (zoned-seen (s .args .staging .now) (s .args .count) (s .pre .1)) (s .pre .2) _ (c .before .before .before .before .before .before .read-head .ensures) (c .before .before .before .before .before .cells .ensures .0) (c .before .before .before .if1 .left) (c .before .before .free-ok .ensures) (c .before .if2 .taken) (c .if3 .left)
-
-object-ok-requires : tie.Need-object-ok-requires
-object-ok-requires c κs = search needs
-
-returns-4 : tie.Need-returns-4
-returns-4 c =
-    let s = c .before .before .before .before .before .before .before .before .before .before in
-    meets-object (zoned-seen (s .args .staging .now) (s .args .count) (s .pre .1)) (s .pre .2) _ (c .before .before .before .before .before .before .before .read-head .ensures) (c .before .before .before .before .before .before .cells .ensures .0) (c .before .before .before .before .if1 .left) (c .before .before .before .free-ok .ensures) (c .before .before .if2 .left) (c .before .object-ok .ensures) (c .if4 .taken)
-
-returns-5 : tie.Need-returns-5
-returns-5 c =
-    let s = c .before .before .before .before .before .before .before .before .before .before in
-    meets-none (zoned-seen (s .args .staging .now) (s .args .count) (s .pre .1)) (s .pre .2) _ (c .before .before .before .before .before .before .before .read-head .ensures) (c .before .before .before .before .before .before .cells .ensures .0) (c .before .before .before .free-ok .ensures) (c .before .before .if2 .left) (c .before .object-ok .ensures) (c .if4 .left)
+returns c = c .meet-before .ensures
 
 pub meet-spec : {M : Type 1} → statement M
-meet-spec =
-    tie.close
-    (tie.spec
-    mul-read-head
-    add-read-head
-    read-head-requires
-    cells-requires
-    sub-if1
-    returns
-    free-ok-requires
-    returns-2
-    returns-3
-    object-ok-requires
-    returns-4
-    returns-5)
+meet-spec = tie.close (tie.spec meet-before-requires returns)

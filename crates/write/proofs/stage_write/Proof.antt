@@ -11,7 +11,7 @@ use Rattle.write.proofs.stage_write.Tie as tie
 entries-added-requires : tie.Need-entries-added-requires
 entries-added-requires c κs =
     let s = c .before .before .before .before in
-    (s .pre .0 .room, omega (arith, s .pre .1 .inside, s .pre .1 .within, length-seen (s .args .pool .now) (s .args .staging .now) (s .args .count)))
+    (s .pre .0 .room, omega (arith, s .pre .1 .inside, s .pre .1 .within, length-seen (s .args .pool .now) (s .args .staging .now) (s .args .count)), s .pre .0 .tidy)
 
 add-if1 : tie.Need-add-if1
 add-if1 c = search needs

@@ -3,7 +3,7 @@ use Rattle.zones.proofs.fits.Statement.{statement}
 use Rattle.zones.proofs.fits.Tie as tie
 
 returns : tie.Need-returns
-returns c = rw (c .before .if1 .taken)
+returns c = rw (c .if1 .taken)
 
 returns-2 : tie.Need-returns-2
 returns-2 c = rw (c .if1 .left)

@@ -1,75 +1,15 @@
 -- `zones::object_at` meets its contract. Assumes nothing.
-use Rattle.layout.specs.Reading.{shapeOf}
-use Rattle.stage.specs.View.{seen}
-use mathlib.Core.Path.{sym, _∙_}
-use borrow.Author.Tests.{not-false, not-true}
-use Rattle.zones.proofs.Shaped.{address-bound, address-cell, address-zone, cells-some, zone-inside}
-use Rattle.zones.proofs.NamedAt.{address-broken, address-named, address-past}
-use native.Mathlib.Omega.{arith}
 use Rattle.zones.proofs.object_at.Statement.{statement}
 use Rattle.zones.proofs.object_at.Tie as tie
 
-cells-requires : tie.Need-cells-requires
-cells-requires c κs = c .before .before .pre .1 .range
+spot-at-requires : tie.Need-spot-at-requires
+spot-at-requires c κs = let p = c .before .before .pre in (p .0, p .1)
 
-mul-if1 : tie.Need-mul-if1
-mul-if1 c =
-    let s = c .before .before .before .before in
-    omega (arith, rw (← (c .before .cells .ensures .0)) at (address-bound (s .args .s) (s .pre .1 .range)))
+object-in-requires : tie.Need-object-in-requires
+object-in-requires c κs = let p = c .before .before .before .pre in (p .0, p .1, c .spot-at .ensures)
 
 returns : tie.Need-returns
-returns c =
-    let s = c .before .before .before .before .before in
-    address-past (shapeOf (s .args .s)) (seen (s .args .pool .now) (s .args .staging .now) (s .args .count)) (s .args .a) (c .before .before .cells .ensures .0) (c .if1 .taken)
-
-div-zone : tie.Need-div-zone
-div-zone c =
-    let s = c .before .before .before .before .before in
-    omega (arith, cells-some (s .args .s) (s .pre .1 .range), c .before .before .cells .ensures .0)
-
-zone-requires : tie.Need-zone-requires
-zone-requires c κs =
-    let s = c .before .before .before .before .before in
-    (s .pre .1 .range, address-zone (s .args .s) (s .pre .1 .range) (c .before .before .cells .ensures .0) (c .if1 .left))
-
-unbroken-requires : tie.Need-unbroken-requires
-unbroken-requires c κs =
-    let s = c .before .before .before .before .before .before in
-    (s .pre .0, zone-inside (s .args .s) (s .pre .1 .range) (s .pre .1 .size) (address-zone (s .args .s) (s .pre .1 .range) (c .before .before .before .cells .ensures .0) (c .before .if1 .left)) (c .zone .ensures))
-
-returns-2 : tie.Need-returns-2
-returns-2 c =
-    let s = c .before .before .before .before .before .before .before .before in
-    address-broken (shapeOf (s .args .s)) (seen (s .args .pool .now) (s .args .staging .now) (s .args .count)) (s .args .a) (c .before .before .before .before .before .cells .ensures .0) (c .before .before .before .if1 .left) (c .before .before .zone .ensures) (c .before .unbroken .ensures) (not-true (c .before .unbroken .result) (c .if2 .taken))
-
-rem-in-zone : tie.Need-rem-in-zone
-rem-in-zone c =
-    let s = c .before .before .before .before .before .before .before .before in
-    omega (arith, cells-some (s .args .s) (s .pre .1 .range), c .before .before .before .before .before .cells .ensures .0)
-
-in-zone-requires : tie.Need-in-zone-requires
-in-zone-requires c κs =
-    let s = c .before .before .before .before .before .before .before .before in
-    let e = c .before .before .before .before .before .cells .ensures .0 in
-    let z = c .before .before .zone .ensures in
-    (s .pre .0, zone-inside (s .args .s) (s .pre .1 .range) (s .pre .1 .size) (address-zone (s .args .s) (s .pre .1 .range) e (c .before .before .before .if1 .left)) z, address-cell (s .args .s) (s .pre .1 .range) (s .args .a) e (z .cells-is), sym (c .before .unbroken .ensures) ∙ not-false (c .before .unbroken .result) (c .if2 .left))
-
-returns-3 : tie.Need-returns-3
-returns-3 c =
-    let s = c .before .before .before .before .before .before .before .before .before in
-    address-named (shapeOf (s .args .s)) (seen (s .args .pool .now) (s .args .staging .now) (s .args .count)) (s .args .a) (c .before .before .before .before .before .before .cells .ensures .0) (c .in-zone .result) (c .before .before .before .before .if1 .left) (c .before .before .before .zone .ensures) (c .before .before .unbroken .ensures) (not-false (c .before .before .unbroken .result) (c .before .if2 .left)) (c .in-zone .ensures)
+returns c = c .object-in .ensures
 
 pub object-at-spec : {M : Type 1} → statement M
-object-at-spec =
-    tie.close
-    (tie.spec
-    cells-requires
-    mul-if1
-    returns
-    div-zone
-    zone-requires
-    unbroken-requires
-    returns-2
-    rem-in-zone
-    in-zone-requires
-    returns-3)
+object-at-spec = tie.close (tie.spec spot-at-requires object-in-requires returns)

@@ -2,23 +2,25 @@
 use Rattle.rules.specs.Plan.{fitted}
 use Rattle.layout.specs.Reading.{shapeOf}
 use Rattle.stage.specs.View.{seen}
-use Prim.Native.Nat.{ℕ, _-_}
+use Rattle.stage.specs.Clear.{Clear}
+use Rattle.stage.proofs.Clear.{clear-later}
+use Prim.Native.Nat.{ℕ, _+_, _*_, _-_}
 use mathlib.Core.Logic.{⊎-elim}
 use mathlib.Core.Path.{ap₂, _∙_}
 use borrow.Author.Tests.{not-false, not-true}
 use Rattle.runs.proofs.Rest.{whole-passed, zoned-seen}
 use Rattle.zones.proofs.Shaped.{zone-inside}
-use Rattle.zones.proofs.Searching.{Inside, Outside, inside-end, inside-hit, inside-pass, inside-start, outside-broken, outside-end, outside-start}
+use Rattle.zones.proofs.Searching.{Inside, Outside, inside-end, inside-hit, inside-pass, inside-seek, outside-broken, outside-end, outside-start}
 use borrow.Author.Needs.{needs}
 use native.Mathlib.Omega.{arith}
 use Rattle.zones.proofs.search.Statement.{statement}
 use Rattle.zones.proofs.search.Tie as tie
 
 abbrev Inv-loop : tie.InvT-loop
-Inv-loop pool staging count s k zones z c₀ n₀ place cells after₀ c n after = Inside (shapeOf s) (seen pool staging count) k z (place .from) (place .cells) c after
+Inv-loop pool staging count s k zones z c₀ n₀ place cells after₀ next₀ c n after next = Inside (shapeOf s) (seen pool staging count) k z (place .from) (place .cells) c after × Clear staging count (place .from + 64 * c) next
 
 abbrev μ-loop : tie.MeasureT-loop
-μ-loop pool staging count s k zones z c₀ n₀ place cells after₀ c n after = place .cells - c
+μ-loop pool staging count s k zones z c₀ n₀ place cells after₀ next₀ c n after next = place .cells - c
 
 abbrev Inv-search : tie.InvT-search
 Inv-search pool staging count s k zones z₀ c₀ n₀ z c n = Outside (shapeOf s) (seen pool staging count) k z
@@ -32,42 +34,48 @@ search-holds c = outside-start _ _ _
 zone-requires : tie.Need-zone-requires Inv-loop μ-loop Inv-search μ-search
 zone-requires c κs = (c .before .before .before .before .pre .1 .range, c .search-test .taken)
 
-unbroken-requires : tie.Need-unbroken-requires Inv-loop μ-loop Inv-search μ-search
-unbroken-requires c κs =
+judge-requires : tie.Need-judge-requires Inv-loop μ-loop Inv-search μ-search
+judge-requires c κs =
     let s = c .before .before .before .before .before in
-    (s .pre .0, (zone-inside (s .args .s) (s .pre .1 .range) (s .pre .1 .size) (c .before .search-test .taken) (c .zone .ensures)))
+    (s .pre .0, zone-inside (s .args .s) (s .pre .1 .range) (s .pre .1 .size) (c .before .search-test .taken) (c .zone .ensures))
 
 returns : tie.Need-returns Inv-loop μ-loop Inv-search μ-search
-returns c = outside-broken (c .before .before .before .before .search .inv) (c .before .before .before .search-test .taken) (c .before .before .zone .ensures) (c .before .unbroken .ensures) (not-true (c .before .unbroken .result) (c .if1 .taken))
+returns c = outside-broken (c .before .before .before .before .before .search .inv) (c .before .before .before .before .search-test .taken) (c .before .before .before .zone .ensures) (c .before .before .judge .ensures .0) (not-true (c .before .before .judge .result .whole) (c .if1 .taken))
 
 loop-holds : tie.Need-loop-holds Inv-loop μ-loop Inv-search μ-search
-loop-holds c = inside-start (c .before .before .before .before .search .inv) (c .before .before .before .search-test .taken) (c .before .before .zone .ensures) (c .before .unbroken .ensures) (not-false (c .before .unbroken .result) (c .if1 .left))
+loop-holds c =
+    let j = c .before .before .judge in
+    let t = not-false (j .result .whole) (c .if1 .left) in
+    (inside-seek (c .before .before .before .before .before .search .inv) (c .before .before .before .before .search-test .taken) (c .before .before .before .zone .ensures) (j .ensures .0) t (j .ensures .1 .seeking t), j .ensures .1 .clear t)
 
-meet-requires : tie.Need-meet-requires Inv-loop μ-loop Inv-search μ-search
-meet-requires c κs =
-    let s = c .before .before .before .before .before .before .before .before .before in
-    (s .pre .0, (zone-inside (s .args .s) (s .pre .1 .range) (s .pre .1 .size) (c .before .before .before .before .before .search-test .taken) (c .before .before .before .before .zone .ensures)), c .loop-test .taken)
+advance-requires : tie.Need-advance-requires Inv-loop μ-loop Inv-search μ-search
+advance-requires c κs =
+    let s = c .before .before .before .before .before .before .before .before .before .before in
+    (s .pre .0, zone-inside (s .args .s) (s .pre .1 .range) (s .pre .1 .size) (c .before .before .before .before .before .before .search-test .taken) (c .before .before .before .before .before .zone .ensures), c .loop-test .taken, c .before .loop .inv .1)
 
 fits-requires : tie.Need-fits-requires Inv-loop μ-loop Inv-search μ-search
 fits-requires c κs = search needs
 
 add-c : tie.Need-add-c Inv-loop μ-loop Inv-search μ-search
 add-c c =
-    let s = c .before .before .before .before .before .before .before .before .before .before .before .before in
-    let p = whole-passed (zoned-seen (s .args .staging .now) (s .args .count) (zone-inside (s .args .s) (s .pre .1 .range) (s .pre .1 .size) (c .before .before .before .before .before .before .before .before .search-test .taken) (c .before .before .before .before .before .before .before .zone .ensures))) (c .before .before .before .loop-test .taken) (c .before .before .before .before .loop .inv .whole) (c .before .before .meet .ensures) in
-    omega (arith, p .within)
+    let s = c .before .before .before .before .before .before .before .before .before .before .before .before .before in
+    let z = zone-inside (s .args .s) (s .pre .1 .range) (s .pre .1 .size) (c .before .before .before .before .before .before .before .before .before .search-test .taken) (c .before .before .before .before .before .before .before .before .zone .ensures) in
+    let p = whole-passed (zoned-seen (s .args .staging .now) (s .args .count) z) (c .before .before .before .loop-test .taken) (c .before .before .before .before .loop .inv .0 .whole) (c .before .before .advance .ensures .0) in
+    omega (arith, p .within, z .inside)
 
 loop-less : tie.Need-loop-less Inv-loop μ-loop Inv-search μ-search
 loop-less c =
-    let s = c .before .before .before .before .before .before .before .before .before .before .before .before in
-    let p = whole-passed (zoned-seen (s .args .staging .now) (s .args .count) (zone-inside (s .args .s) (s .pre .1 .range) (s .pre .1 .size) (c .before .before .before .before .before .before .before .before .search-test .taken) (c .before .before .before .before .before .before .before .zone .ensures))) (c .before .before .before .loop-test .taken) (c .before .before .before .before .loop .inv .whole) (c .before .before .meet .ensures) in
+    let s = c .before .before .before .before .before .before .before .before .before .before .before .before .before in
+    let z = zone-inside (s .args .s) (s .pre .1 .range) (s .pre .1 .size) (c .before .before .before .before .before .before .before .before .before .search-test .taken) (c .before .before .before .before .before .before .before .before .zone .ensures) in
+    let p = whole-passed (zoned-seen (s .args .staging .now) (s .args .count) z) (c .before .before .before .loop-test .taken) (c .before .before .before .before .loop .inv .0 .whole) (c .before .before .advance .ensures .0) in
     omega (arith, p .within, p .some)
 
 loop-again : tie.Need-loop-again Inv-loop μ-loop Inv-search μ-search
 loop-again c =
-    let s = c .before .before .before .before .before .before .before .before .before .before .before .before in
-    let p = whole-passed (zoned-seen (s .args .staging .now) (s .args .count) (zone-inside (s .args .s) (s .pre .1 .range) (s .pre .1 .size) (c .before .before .before .before .before .before .before .before .search-test .taken) (c .before .before .before .before .before .before .before .zone .ensures))) (c .before .before .before .loop-test .taken) (c .before .before .before .before .loop .inv .whole) (c .before .before .meet .ensures) in
-    inside-pass (c .before .before .before .before .loop .inv) p (c .before .fits2 .ensures) (c .if2 .left)
+    let s = c .before .before .before .before .before .before .before .before .before .before .before .before .before in
+    let z = zone-inside (s .args .s) (s .pre .1 .range) (s .pre .1 .size) (c .before .before .before .before .before .before .before .before .before .search-test .taken) (c .before .before .before .before .before .before .before .before .zone .ensures) in
+    let p = whole-passed (zoned-seen (s .args .staging .now) (s .args .count) z) (c .before .before .before .loop-test .taken) (c .before .before .before .before .loop .inv .0 .whole) (c .before .before .advance .ensures .0) in
+    (inside-pass (c .before .before .before .before .loop .inv .0) p (c .before .fits2 .ensures) (c .if2 .left), clear-later (omega arith) (c .before .before .advance .ensures .1))
 
 add-z : tie.Need-add-z Inv-loop μ-loop Inv-search μ-search
 add-z c = search needs
@@ -77,8 +85,8 @@ search-less c = search needs
 
 search-again : tie.Need-search-again Inv-loop μ-loop Inv-search μ-search
 search-again c =
-    let s = c .before .before .before .before .before .before .before .before .before in
-    inside-end (c .before .loop .inv) (zoned-seen (s .args .staging .now) (s .args .count) (zone-inside (s .args .s) (s .pre .1 .range) (s .pre .1 .size) (c .before .before .before .before .before .search-test .taken) (c .before .before .before .before .zone .ensures))) (c .loop-test .left) (c .before .before .before .before .before .search-test .taken)
+    let s = c .before .before .before .before .before .before .before .before .before .before in
+    inside-end (c .before .loop .inv .0) (zoned-seen (s .args .staging .now) (s .args .count) (zone-inside (s .args .s) (s .pre .1 .range) (s .pre .1 .size) (c .before .before .before .before .before .before .search-test .taken) (c .before .before .before .before .before .zone .ensures))) (c .loop-test .left) (c .before .before .before .before .before .before .search-test .taken)
 
 returns-2 : tie.Need-returns-2 Inv-loop μ-loop Inv-search μ-search
 returns-2 c =
@@ -86,8 +94,8 @@ returns-2 c =
     ⊎-elim
     (λ w. let b : ⊥ = omega arith in absurd b)
     (λ w.
-    let p = whole-passed (zoned-seen (s .args .staging .now) (s .args .count) (zone-inside (s .args .s) (s .pre .1 .range) (s .pre .1 .size) (w .0 .taken) (w .1 .ensures))) (w .5 .taken) (w .4 .inv .whole) (w .6 .ensures) in
-    ap₂ (λ (x y : ℕ). fitted (c .before .before .search .z) (record { cell = x; count = y })) (w .9) (w .10) ∙ inside-hit (w .4 .inv) p (w .7 .ensures) (w .8 .taken))
+    let p = whole-passed (zoned-seen (s .args .staging .now) (s .args .count) (zone-inside (s .args .s) (s .pre .1 .range) (s .pre .1 .size) (w .0 .taken) (w .1 .ensures))) (w .6 .taken) (w .5 .inv .0 .whole) (w .7 .ensures .0) in
+    ap₂ (λ (x y : ℕ). fitted (c .before .before .search .z) (record { cell = x; count = y })) (w .10) (w .11) ∙ inside-hit (w .5 .inv .0) p (w .8 .ensures) (w .9 .taken))
     (c .before .search-test .came)
 
 returns-3 : tie.Need-returns-3 Inv-loop μ-loop Inv-search μ-search
@@ -103,10 +111,10 @@ search-spec =
     μ-search
     search-holds
     zone-requires
-    unbroken-requires
+    judge-requires
     returns
     loop-holds
-    meet-requires
+    advance-requires
     fits-requires
     add-c
     loop-less

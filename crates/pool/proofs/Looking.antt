@@ -13,7 +13,7 @@ use Rattle.rules.specs.Look.{Look, concludeLook, look, lookTests, part, refused
 use Rattle.rules.proofs.Test.{first-left, first-passed, first-right}
 use Rattle.layout.specs.declared.Shape.{Shape}
 use Rattle.layout.specs.declared.Opened.the-variants as Opening
-use Rattle.layout.specs.Reading.{answer, opened, shapeOf}
+use Rattle.layout.specs.Reading.{answer, shapeOf}
 use Rattle.layout.proofs.Opening.{answer-refused, open-good}
 use Rattle.opening.proofs.Reading.{read-none, read-opened}
 use Rattle.reading.specs.declared.Body.{Body}

@@ -126,7 +126,7 @@ pub fn repair(pool: &mut [u8], lost: &[u16]) -> Outcome
 }
 
 // The part of the pool that holds the body of the object at the cell address `address`, or the first of refusals 2, 3, 4, 2, 21, 5, 23, 24, 25.
-fn look_for(pool: &[u8], address: usize) -> Body
+pub fn look_for(pool: &[u8], address: usize) -> Body
     ensures { λ r. ⌜ (lookOf r ≡ looked (now (pool .entry)) address) × Within (now (pool .entry)) r ⌝ }
 {
     match opening::quiet(pool) {

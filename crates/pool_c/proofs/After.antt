@@ -1,0 +1,56 @@
+-- What a public call leaves, and what goes out for it. Assumes nothing.
+use Prim.Native.Nat.{ℕ}
+use mathlib.Core.Path.{_≡_, sym, ap, _∙_, subst}
+use mathlib.Core.List.{List}
+use Rattle.rules.specs.Staging as Staging
+use Rattle.rules.specs.Answer.{After, Changed, Given}
+use Rattle.powercut.specs.Recovery.{RecoveryAfter}
+use Rattle.answers.specs.Reading.{answerOf}
+use Rattle.record.specs.Reading.{phaseOf}
+use Rattle.pool.specs.declared.Outcome.{Outcome}
+use Rattle.pool.specs.Reading as Pool
+use Rattle.transaction.specs.declared.Transaction as Public
+use Rattle.transaction.specs.declared.Reply as PublicReply
+use Rattle.transaction.specs.Reading.{afterOf, givenOf, transactionOf}
+use Rattle.recovery.specs.declared.Reply as PublicRecovery
+use Rattle.recovery.specs.Reading as Recovery
+use Rattle.recovery.specs.Reading.{recoveryOf}
+use Rattle.pool_c.specs.declared.transactions.Transaction.{Transaction}
+use Rattle.pool_c.specs.declared.transactions.Reply.{Reply}
+use Rattle.pool_c.specs.declared.recoveries.Recovery as C
+use Rattle.pool_c.specs.declared.recoveries.RecoveryReply.{RecoveryReply}
+use Rattle.pool_c.specs.Reading.{Fits64, afterOut, changedOut, givenIn, phaseIn, phaseOut, recoveryAfterOut, recoveryIn, recoveryReplyOut, replyOut, transactionIn, valueOut}
+use Rattle.pool_c.proofs.Reading.{phase-out-in, progress-out-in, work-out-in}
+use Rattle.pool_c.proofs.Fits.{Fits, Keeps}
+
+-- ---- the pool alone
+
+pub changed-out : (x : Outcome) {r : ℕ} (q : List ℕ) {y : Changed} → r ≡ valueOut (Pool.answerOf x) → Pool.changed x q ≡ y → (r, q) ≡ changedOut y
+changed-out x q e h = ap (λ (n : ℕ). (n, q)) e ∙ ap changedOut h
+
+-- ---- a transaction: f is the definition, d the transaction decoded from t, x what the public call hands back
+
+module _ (f : Given → After) (t : Transaction) (d : Public.Transaction) (x : PublicReply.Reply) (p st q st′ : List ℕ)
+    (e : transactionOf d ≡ transactionIn t) (h : afterOf x q st′ ≡ f (givenOf d p st)) where
+  left : afterOf x q st′ ≡ f (givenIn t p st)
+  left = h ∙ ap (λ (z : Staging.Transaction). f (record { pool = p; staging = st; txn = z })) e
+
+  pub after-fits : Keeps f → Fits64 (t .phase) → Fits64 (phaseOut (phaseOf (x .transaction .phase)))
+  after-fits k l =
+      let i : Fits64 (phaseOut (phaseIn (t .phase))) = rw phase-out-in l in
+      subst (λ (z : After). Fits64 (phaseOut (z .left .txn .phase))) (sym left) (k (givenIn t p st) i)
+
+  pub after-out : {r : Reply} → r ≡ replyOut (answerOf (x .answer)) (transactionOf (x .transaction)) → (r, q, st′) ≡ afterOut (f (givenIn t p st))
+  after-out i = ap (λ (z : Reply). (z, q, st′)) i ∙ ap afterOut left
+
+-- ---- a recovery
+
+pub recovery-in-fits : (r : C.Recovery) → Fits64 (r .work) → Fits64 (r .phase) → Fits (recoveryIn r)
+recovery-in-fits r k l = (rw work-out-in k, rw progress-out-in l)
+
+module _ (x : PublicRecovery.Reply) (q : List ℕ) {y : RecoveryAfter} (h : Recovery.afterOf x q ≡ y) where
+  pub recovery-after-fits : Fits (y .recovery) → Fits (recoveryOf (x .recovery))
+  recovery-after-fits l = subst (λ (z : RecoveryAfter). Fits (z .recovery)) (sym h) l
+
+  pub recovery-after-out : {r : RecoveryReply} → r ≡ recoveryReplyOut (answerOf (x .answer)) (recoveryOf (x .recovery)) → (r, q) ≡ recoveryAfterOut y
+  recovery-after-out e = ap (λ (z : RecoveryReply). (z, q)) e ∙ ap recoveryAfterOut h

@@ -1,0 +1,139 @@
+-- The record that a call hands back goes out in 8-byte numbers where the record given did: a refusal hands back the given one, and a step
+-- comes to a place of its list. Assumes nothing.
+use Prim.Native.Nat.{ℕ, zero, suc, _≤_, _<_}
+use mathlib.Core.Path.{_≡_, refl}
+use mathlib.Core.Bool.{true, false, not, _&&_, _||_}
+use mathlib.Core.Option.{Option, none, some}
+use mathlib.Core.List.{List}
+use native.Mathlib.Omega.{arith}
+use lib.Dec.{eqb, ltb}
+use lib.ListN.{length}
+use borrow.Author.Tests.{leb-false, ltb-false, ltb-true}
+use Rattle.rules.specs.Words.{word}
+use Rattle.rules.specs.Shape.{Shape, entryLimit, logA, logB}
+use Rattle.rules.specs.Header.{openTests, shapeIn}
+use Rattle.rules.specs.Staging.{Phase, closed, commitLength, committing, impossible, live, pastCommit}
+use Rattle.rules.specs.Answer.{After, Given, conclude}
+use Rattle.rules.specs.Plan.{Call}
+use Rattle.rules.specs.Calls.{call, recordTests, staged}
+use Rattle.rules.proofs.Bool.{or-false, split}
+use Rattle.rules.proofs.Test.{first-passed, not-not, passed-left, passed-right}
+use Rattle.powercut.specs.Log.{countIn, valid}
+use Rattle.powercut.specs.Steps.{Remedy, clear, neither, nothing, recoverySteps, remedy, replay}
+use Rattle.powercut.specs.Commit.{commitList, commitStart, commitStep, commitTests, nextPhase, placeIn, startPhase}
+use Rattle.powercut.specs.Recovery.{Recovery, RecoveryAfter, concludeRecovery, countAbove, doneSteps, impossibleRecovery, isRecovering, logLost, nextProgress, recoveryList, recoveryStart, recoveryStep, recoveryTests, startRecovery}
+use Rattle.powercut.proofs.StepCount.{clear-count, replay-count}
+use Rattle.pool_c.specs.Reading.{Fits64, phaseOut, progressOut, workOut}
+
+-- ---- a transaction
+
+-- what a call leaves of a transaction whose phase fits is one whose phase fits
+abbrev pub Keeps : (Given → After) → Type 0
+Keeps f = (g : Given) → Fits64 (phaseOut (g .txn .phase)) → Fits64 (phaseOut (f g .left .txn .phase))
+
+conclude-fits : (g : Given) (o : Option ℕ) (x : After) → Fits64 (phaseOut (g .txn .phase)) → (o ≡ none → Fits64 (phaseOut (x .left .txn .phase)))
+    → Fits64 (phaseOut (conclude g o x .left .txn .phase))
+unfolding conclude
+conclude-fits g none x h k = k refl
+conclude-fits g (some n) x h k = h
+
+pub call-fits : (k : Call) → Keeps (λ (g : Given). call g k)
+unfolding call staged
+call-fits k g h = conclude-fits g _ _ h (λ e. omega arith)
+
+pub start-fits : Keeps commitStart
+unfolding commitStart
+start-fits g h = conclude-fits g _ _ h (λ e. started (g .txn .count))
+  where
+    started : (n : ℕ) → Fits64 (phaseOut (startPhase n))
+    started zero = unfold startPhase in omega arith
+    started (suc n) = unfold startPhase in omega arith
+
+place-few : (n : ℕ) (f : Phase) → n ≤ entryLimit → pastCommit n f ≡ false → placeIn f < 771
+unfolding placeIn pastCommit
+place-few n live l e = omega arith
+place-few n closed l e = omega arith
+place-few n (committing k) l e = few n l (leb-false (commitLength n) k e)
+  where
+    few : (n : ℕ) → n ≤ entryLimit → k < commitLength n → k < 771
+    few zero l h = unfold commitLength in omega arith
+    few (suc n) l h = unfold commitLength in omega arith
+
+possible-few : (sh : Shape) (g : Given) → impossible sh (g .staging) (g .txn) ≡ false → placeIn (g .txn .phase) < 771
+unfolding impossible
+possible-few sh g e =
+    let a = or-false (ltb entryLimit (g .txn .count)) _ e in
+    let b = or-false (pastCommit (g .txn .count) (g .txn .phase)) _ (a .1) in
+    place-few (g .txn .count) (g .txn .phase) (ltb-false entryLimit (g .txn .count) (a .0)) (b .0)
+
+next-fits : (k n : ℕ) → k < 771 → Fits64 (phaseOut (nextPhase k n))
+unfolding nextPhase
+next-fits k n l = split (eqb (suc k) n) (λ e. rw e (omega arith)) (λ e. rw e (omega arith))
+
+pub step-fits : Keeps commitStep
+unfolding commitStep commitTests recordTests
+step-fits g h = conclude-fits g _ _ h (λ e.
+    let p = passed-right (openTests (g .pool)) _ (passed-left (recordTests g) _ (first-passed _ e)) in
+    next-fits (placeIn (g .txn .phase)) (length (commitList g)) (possible-few (shapeIn (g .pool)) g (p .1 .0)))
+
+-- ---- a recovery
+
+abbrev pub Fits : Recovery → Type 0
+Fits r = Fits64 (workOut (r .work)) × Fits64 (progressOut (r .phase))
+
+conclude-recovery-fits : (p : List ℕ) (r : Recovery) (o : Option ℕ) (x : RecoveryAfter) → Fits r → (o ≡ none → Fits (x .recovery)) → Fits (concludeRecovery p r o x .recovery)
+unfolding concludeRecovery
+conclude-recovery-fits p r none x h k = k refl
+conclude-recovery-fits p r (some n) x h k = h
+
+-- a count is a number of 2 bytes
+count-few : (w : ℕ) → countIn w < 65536
+unfolding countIn
+count-few w = omega arith
+
+remedy-fits : (sh : Shape) (p : List ℕ) → Fits64 (workOut (remedy sh p))
+unfolding remedy
+remedy-fits sh p = split (valid sh p (logA sh)) (λ e. rw e (let a = count-few (word p (logA sh)) in omega arith))
+    (λ e. rw e (split (valid sh p (logB sh)) (λ f. rw f (let a = count-few (word p (logB sh)) in omega arith))
+    (λ f. rw f (split (eqb (word p (logA sh)) 0 && eqb (word p (logB sh)) 0) (λ i. rw i (omega arith))
+    (λ i. rw i (split (eqb (word p (logA sh)) 0 || eqb (word p (logB sh)) 0) (λ j. rw j (omega arith)) (λ j. rw j (omega arith))))))))
+
+begun-fits : (p : List ℕ) (w : Remedy) → Fits64 (workOut w) → Fits (startRecovery p w .recovery)
+unfolding startRecovery
+begun-fits p (replay l n) h = (h, omega arith)
+begun-fits p clear h = (h, omega arith)
+begun-fits p nothing h = (h, omega arith)
+begun-fits p neither h = (h, omega arith)
+
+pub recovery-start-fits : (p : List ℕ) → Fits (recoveryStart p .recovery)
+unfolding recoveryStart
+recovery-start-fits p = conclude-recovery-fits p _ _ _ (omega arith, omega arith) (λ e. begun-fits p _ (remedy-fits (shapeIn p) p))
+
+list-few : (sh : Shape) (p : List ℕ) (w : Remedy) → countAbove w ≡ false → length (recoverySteps sh p w) ≤ 259
+unfolding countAbove
+list-few sh p (replay l n) e = rw (replay-count sh p l n) (let a = ltb-false entryLimit n e in omega arith)
+list-few sh p clear e = rw (clear-count sh p) (omega arith)
+list-few sh p nothing e = unfold recoverySteps in omega arith
+list-few sh p neither e = unfold recoverySteps in omega arith
+
+next-progress-fits : (k n : ℕ) → k < 259 → Fits64 (progressOut (nextProgress k n))
+unfolding nextProgress
+next-progress-fits k n l = split (eqb (suc k) n) (λ e. rw e (omega arith)) (λ e. rw e (omega arith))
+
+done-few : (sh : Shape) (p : List ℕ) (r : Recovery) → impossibleRecovery sh p r ≡ false → isRecovering (r .phase) ≡ true → doneSteps (r .phase) < 259
+unfolding impossibleRecovery
+done-few sh p r e i =
+    let k : ℕ = doneSteps (r .phase) in
+    let xs : ℕ = length (recoverySteps sh p (r .work)) in
+    let a = or-false (countAbove (r .work)) _ e in
+    let b : (true && (not (ltb k xs) || logLost sh p (r .work) k)) ≡ false = rw i at (a .1) in
+    let c = or-false (not (ltb k xs)) (logLost sh p (r .work) k) b in
+    let d = ltb-true k xs (not-not (ltb k xs) (c .0)) in
+    let m = list-few sh p (r .work) (a .0) in
+    omega arith
+
+pub recovery-step-fits : (p : List ℕ) (r : Recovery) → Fits r → Fits (recoveryStep p r .recovery)
+unfolding recoveryStep recoveryTests
+recovery-step-fits p r h = conclude-recovery-fits p r _ _ h (λ e.
+    let q = passed-right (openTests p) _ (first-passed _ e) in
+    (h .0, next-progress-fits (doneSteps (r .phase)) (length (recoveryList p r)) (done-few (shapeIn p) p r (q .0) (not-not (isRecovering (r .phase)) (q .1 .0)))))

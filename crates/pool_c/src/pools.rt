@@ -1,0 +1,121 @@
+// The calls on the pool alone.
+ghost use mathlib.Core.Path.{_≡_};
+ghost use Rattle.rules.specs.Check.{check as checkOf};
+ghost use Rattle.rules.specs.Format.{formatted};
+ghost use Rattle.rules.specs.Look.{look as looked};
+ghost use Rattle.rules.specs.Mend.{mendHeader};
+ghost use Rattle.rules.specs.Repair.{repair as repaired};
+ghost use Rattle.rules.specs.Scrub.{scrub as scrubbed};
+ghost use Rattle.pool.specs.Reading.{answerOf};
+ghost use Rattle.pool_c.specs.Reading.{changedOut, countsOut, partOut, valueOut};
+use pool::Outcome;
+use pool::Scrubbed;
+use reading::Body;
+
+// The part of the pool that holds a body; or the refusal, and zeros.
+#[repr(C)]
+pub struct Part {
+    pub refusal: usize,
+    pub offset: usize,
+    pub length: usize,
+}
+
+// What scrub counts; or the refusal, and zeros.
+#[repr(C)]
+pub struct Counts {
+    pub refusal: usize,
+    pub objects: usize,
+    pub damaged: usize,
+    pub broken: usize,
+    pub columns: usize,
+}
+
+// The refusal's number, or 0.
+fn refusal(outcome: Outcome) -> usize
+    ensures { λ r. ⌜ r ≡ valueOut (answerOf outcome) ⌝ }
+{
+    match outcome {
+        Outcome::Done => 0,
+        Outcome::Refused(n) => n as usize,
+    }
+}
+
+// Makes a fresh pool.
+#[no_mangle]
+pub extern "C" fn pool_format(
+    pool: &mut [u8],
+    rows: usize,
+    cols: usize,
+    zones: usize,
+    id: u64,
+) -> usize
+    ensures { λ r. ⌜ (r, now (pool .exit)) ≡ changedOut (formatted (now (pool .entry)) rows cols zones id) ⌝ }
+{
+    refusal(pool::format(pool, rows, cols, zones, id))
+}
+
+// Copies the valid header over an invalid one.
+#[no_mangle]
+pub extern "C" fn pool_mend(pool: &mut [u8]) -> usize
+    ensures { λ r. ⌜ (r, now (pool .exit)) ≡ changedOut (mendHeader (now (pool .entry))) ⌝ }
+{
+    refusal(pool::mend(pool))
+}
+
+// Rebuilds the lost pages.
+#[no_mangle]
+pub extern "C" fn pool_repair(pool: &mut [u8], lost: &[u16]) -> usize
+    ensures { λ r. ⌜ (r, now (pool .exit)) ≡ changedOut (repaired (now (pool .entry)) (now (lost .entry))) ⌝ }
+{
+    refusal(pool::repair(pool, lost))
+}
+
+// Where the body of the object at this address lies.
+#[no_mangle]
+pub extern "C" fn pool_look(pool: &[u8], address: usize) -> Part
+    ensures { λ r. ⌜ r ≡ partOut (looked (now (pool .entry)) address) ⌝ }
+{
+    match pool::look_for(pool, address) {
+        Body::Refused(n) => Part {
+            refusal: n as usize,
+            offset: 0,
+            length: 0,
+        },
+        Body::At(offset, length) => Part {
+            refusal: 0,
+            offset,
+            length,
+        },
+    }
+}
+
+// Judges every object, zone and column.
+#[no_mangle]
+pub extern "C" fn pool_scrub(pool: &[u8]) -> Counts
+    ensures { λ r. ⌜ r ≡ countsOut (scrubbed (now (pool .entry))) ⌝ }
+{
+    match pool::scrub(pool) {
+        Scrubbed::Refused(n) => Counts {
+            refusal: n as usize,
+            objects: 0,
+            damaged: 0,
+            broken: 0,
+            columns: 0,
+        },
+        Scrubbed::Counts(objects, damaged, broken, columns) => Counts {
+            refusal: 0,
+            objects,
+            damaged,
+            broken,
+            columns,
+        },
+    }
+}
+
+// The check of these bytes.
+#[no_mangle]
+pub extern "C" fn pool_check(bytes: &[u8]) -> u32
+    ensures { λ r. ⌜ r ≡ checkOf (now (bytes .entry)) ⌝ }
+{
+    sums::check(bytes)
+}

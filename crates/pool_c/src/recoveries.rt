@@ -1,0 +1,125 @@
+// The calls on a recovery.
+ghost use mathlib.Core.Path.{_≡_};
+ghost use Rattle.powercut.specs.Recovery.{recoveryStart, recoveryStep};
+ghost use Rattle.answers.specs.Reading.{answerOf};
+ghost use Rattle.recovery.specs.Reading.{progressOf, recoveryOf, workOf};
+ghost use Rattle.pool_c.specs.Reading.{Fits64, progressIn, progressOut, recoveryAfterOut, recoveryIn, recoveryReplyOut, workIn, workOut};
+use crate::answer::kind;
+use crate::answer::value;
+use recovery::Progress;
+use recovery::Work;
+
+// What is to be done: 0 nothing, 1 clear both seals, 2 neither log is valid, 2n + 3 replay log A with n entries, 2n + 4 log B; and the phase:
+// 0 finished, k + 1 after k steps.
+#[repr(C)]
+pub struct Recovery {
+    pub work: usize,
+    pub phase: usize,
+}
+
+// What a call answers, and the recovery that it hands back.
+#[repr(C)]
+pub struct RecoveryReply {
+    pub kind: usize,
+    pub value: usize,
+    pub recovery: Recovery,
+}
+
+// The work that a number stands for.
+fn work_in(n: usize) -> Work
+    ensures { λ r. ⌜ workOf r ≡ workIn n ⌝ }
+{
+    if n == 0 {
+        return Work::Nothing;
+    }
+    if n == 1 {
+        return Work::Clear;
+    }
+    if n == 2 {
+        return Work::Neither;
+    }
+    let m = n - 3;
+    if m % 2 == 0 {
+        return Work::ReplayA(m / 2);
+    }
+    Work::ReplayB(m / 2)
+}
+
+// The number of a work.
+fn work_out(work: Work) -> usize
+    requires { ⌜ Fits64 (workOut (workOf work)) ⌝ }
+    ensures { λ r. ⌜ r ≡ workOut (workOf work) ⌝ }
+{
+    match work {
+        Work::Nothing => 0,
+        Work::Clear => 1,
+        Work::Neither => 2,
+        Work::ReplayA(n) => 2 * n + 3,
+        Work::ReplayB(n) => 2 * n + 4,
+    }
+}
+
+// The phase that a number stands for.
+fn progress_in(n: usize) -> Progress
+    ensures { λ r. ⌜ progressOf r ≡ progressIn n ⌝ }
+{
+    if n == 0 {
+        return Progress::Finished;
+    }
+    Progress::Recovering(n - 1)
+}
+
+// The number of a phase.
+fn progress_out(phase: Progress) -> usize
+    requires { ⌜ Fits64 (progressOut (progressOf phase)) ⌝ }
+    ensures { λ r. ⌜ r ≡ progressOut (progressOf phase) ⌝ }
+{
+    match phase {
+        Progress::Finished => 0,
+        Progress::Recovering(k) => k + 1,
+    }
+}
+
+// The recovery that goes in.
+fn decoded(r: Recovery) -> recovery::Recovery
+    ensures { λ x. ⌜ recoveryOf x ≡ recoveryIn r ⌝ }
+{
+    let work = work_in(r.work);
+    let phase = progress_in(r.phase);
+    recovery::Recovery { work, phase }
+}
+
+// The reply that goes out.
+fn encoded(r: recovery::Reply) -> RecoveryReply
+    requires { ⌜ Fits64 (workOut (workOf (r .recovery .work))) × Fits64 (progressOut (progressOf (r .recovery .phase))) ⌝ }
+    ensures { λ x. ⌜ x ≡ recoveryReplyOut (answerOf (r .answer)) (recoveryOf (r .recovery)) ⌝ }
+{
+    let answer = r.answer;
+    let handed = r.recovery;
+    let work = handed.work;
+    let phase = handed.phase;
+    RecoveryReply {
+        kind: kind(answer),
+        value: value(answer),
+        recovery: Recovery {
+            work: work_out(work),
+            phase: progress_out(phase),
+        },
+    }
+}
+
+// Starts a recovery.
+#[no_mangle]
+pub extern "C" fn pool_recover(pool: &[u8]) -> RecoveryReply
+    ensures { λ r. ⌜ (r, now (pool .entry)) ≡ recoveryAfterOut (recoveryStart (now (pool .entry))) ⌝ }
+{
+    encoded(recovery::Recovery::start(pool))
+}
+
+// Makes the recovery's next step.
+#[no_mangle]
+pub extern "C" fn pool_recover_step(recovery: Recovery, pool: &mut [u8]) -> RecoveryReply
+    ensures { λ r. ⌜ (r, now (pool .exit)) ≡ recoveryAfterOut (recoveryStep (now (pool .entry)) (recoveryIn recovery)) ⌝ }
+{
+    encoded(decoded(recovery).step(pool))
+}

@@ -1,0 +1,152 @@
+// The calls on a transaction.
+ghost use mathlib.Core.Path.{_≡_};
+ghost use Rattle.rules.specs.Staging.{fresh};
+ghost use Rattle.rules.specs.Plan.{allocate as Allocate, release, write as Write};
+ghost use Rattle.rules.specs.Calls.{call};
+ghost use Rattle.powercut.specs.Commit.{commitStart, commitStep};
+ghost use Rattle.answers.specs.Reading.{answerOf};
+ghost use Rattle.record.specs.Reading.{phaseOf};
+ghost use Rattle.transaction.specs.Reading.{transactionOf};
+ghost use Rattle.pool_c.specs.Reading.{afterOut, Fits64, givenIn, phaseIn, phaseOut, replyOut, transactionIn, transactionOut};
+use crate::answer::kind;
+use crate::answer::value;
+use record::Phase;
+
+// The entries staged, and the phase: 0 open, 1 closed, k + 2 after k steps of the commit.
+#[repr(C)]
+pub struct Transaction {
+    pub count: usize,
+    pub phase: usize,
+}
+
+// What a call answers, and the transaction that it hands back.
+#[repr(C)]
+pub struct Reply {
+    pub kind: usize,
+    pub value: usize,
+    pub transaction: Transaction,
+}
+
+// The phase that a number stands for.
+fn phase_in(n: usize) -> Phase
+    ensures { λ r. ⌜ phaseOf r ≡ phaseIn n ⌝ }
+{
+    if n == 0 {
+        return Phase::Open;
+    }
+    if n == 1 {
+        return Phase::Closed;
+    }
+    Phase::Committing(n - 2)
+}
+
+// The number of a phase.
+fn phase_out(phase: Phase) -> usize
+    requires { ⌜ Fits64 (phaseOut (phaseOf phase)) ⌝ }
+    ensures { λ r. ⌜ r ≡ phaseOut (phaseOf phase) ⌝ }
+{
+    match phase {
+        Phase::Open => 0,
+        Phase::Closed => 1,
+        Phase::Committing(k) => k + 2,
+    }
+}
+
+// The transaction that goes in.
+fn decoded(t: Transaction) -> transaction::Transaction
+    ensures { λ r. ⌜ transactionOf r ≡ transactionIn t ⌝ }
+{
+    let phase = phase_in(t.phase);
+    transaction::Transaction {
+        count: t.count,
+        phase,
+    }
+}
+
+// The reply that goes out.
+fn encoded(r: transaction::Reply) -> Reply
+    requires { ⌜ Fits64 (phaseOut (phaseOf (r .transaction .phase))) ⌝ }
+    ensures { λ x. ⌜ x ≡ replyOut (answerOf (r .answer)) (transactionOf (r .transaction)) ⌝ }
+{
+    let answer = r.answer;
+    let handed = r.transaction;
+    let phase = handed.phase;
+    Reply {
+        kind: kind(answer),
+        value: value(answer),
+        transaction: Transaction {
+            count: handed.count,
+            phase: phase_out(phase),
+        },
+    }
+}
+
+// A fresh transaction: open, without entries.
+#[no_mangle]
+pub extern "C" fn pool_begin() -> Transaction
+    ensures { λ r. ⌜ r ≡ transactionOut fresh ⌝ }
+{
+    Transaction { count: 0, phase: 0 }
+}
+
+// Allocates an object with this tag and body.
+#[no_mangle]
+pub extern "C" fn pool_allocate(
+    transaction: Transaction,
+    pool: &[u8],
+    staging: &mut [u8],
+    tag: u32,
+    body: &[u8],
+) -> Reply
+    ensures { λ r. ⌜ (r, now (pool .entry), now (staging .exit)) ≡ afterOut (call (givenIn transaction (now (pool .entry)) (now (staging .entry))) (Allocate tag (now (body .entry)))) ⌝ }
+{
+    encoded(decoded(transaction).allocate(pool, staging, tag, body))
+}
+
+// Writes bytes over the body of the object at this address, from its byte `at` on.
+#[no_mangle]
+pub extern "C" fn pool_write(
+    transaction: Transaction,
+    pool: &[u8],
+    staging: &mut [u8],
+    address: usize,
+    at: usize,
+    bytes: &[u8],
+) -> Reply
+    ensures { λ r. ⌜ (r, now (pool .entry), now (staging .exit)) ≡ afterOut (call (givenIn transaction (now (pool .entry)) (now (staging .entry))) (Write address at (now (bytes .entry)))) ⌝ }
+{
+    encoded(decoded(transaction).write(pool, staging, address, at, bytes))
+}
+
+// Frees the object at this address.
+#[no_mangle]
+pub extern "C" fn pool_free(
+    transaction: Transaction,
+    pool: &[u8],
+    staging: &mut [u8],
+    address: usize,
+) -> Reply
+    ensures { λ r. ⌜ (r, now (pool .entry), now (staging .exit)) ≡ afterOut (call (givenIn transaction (now (pool .entry)) (now (staging .entry))) (release address)) ⌝ }
+{
+    encoded(decoded(transaction).free(pool, staging, address))
+}
+
+// Starts the commit.
+#[no_mangle]
+pub extern "C" fn pool_commit(transaction: Transaction, pool: &[u8], staging: &[u8]) -> Reply
+    ensures { λ r. ⌜ (r, now (pool .entry), now (staging .entry)) ≡ afterOut (commitStart (givenIn transaction (now (pool .entry)) (now (staging .entry)))) ⌝ }
+{
+    encoded(decoded(transaction).commit(pool, staging))
+}
+
+// Makes the commit's next step.
+#[no_mangle]
+pub extern "C" fn pool_commit_step(
+    transaction: Transaction,
+    pool: &mut [u8],
+    staging: &[u8],
+) -> Reply
+    ensures { λ r. ⌜ (r, now (pool .exit), now (staging .entry)) ≡ afterOut (commitStep (givenIn transaction (now (pool .entry)) (now (staging .entry)))) ⌝ }
+{
+    encoded(decoded(transaction).step(pool, staging))
+}

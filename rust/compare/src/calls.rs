@@ -1,0 +1,179 @@
+//! The calls of the boundary as values, made on the library and on the reference with everything compared.
+use linked::{Counts, Part, Recovery, RecoveryReply, Reply, Transaction};
+
+/// What calls are given and change.
+#[derive(Clone, Debug, PartialEq, Eq)]
+pub struct Given {
+    pub pool: Vec<u8>,
+    pub staging: Vec<u8>,
+    pub transaction: Transaction,
+    pub recovery: Recovery,
+}
+
+#[derive(Clone, Debug)]
+pub enum Call {
+    Format { rows: usize, cols: usize, zones: usize, id: u64 },
+    Mend,
+    Look(usize),
+    Scrub,
+    Repair(Vec<u16>),
+    Check(Vec<u8>),
+    Begin,
+    Allocate { tag: u32, body: Vec<u8> },
+    Write { address: usize, at: usize, bytes: Vec<u8> },
+    Free(usize),
+    Commit,
+    CommitStep,
+    Recover,
+    RecoverStep,
+}
+
+#[derive(Clone, Copy, Debug, PartialEq, Eq)]
+pub enum Answer {
+    Refusal(usize),
+    Part(Part),
+    Counts(Counts),
+    Sum(u32),
+    Transaction(Transaction),
+    Reply(Reply),
+    RecoveryReply(RecoveryReply),
+}
+
+impl Call {
+    pub fn name(&self) -> &'static str {
+        match self {
+            Call::Format { .. } => "format",
+            Call::Mend => "mend",
+            Call::Look(_) => "look",
+            Call::Scrub => "scrub",
+            Call::Repair(_) => "repair",
+            Call::Check(_) => "check",
+            Call::Begin => "begin",
+            Call::Allocate { .. } => "allocate",
+            Call::Write { .. } => "write",
+            Call::Free(_) => "free",
+            Call::Commit => "commit",
+            Call::CommitStep => "commit_step",
+            Call::Recover => "recover",
+            Call::RecoverStep => "recover_step",
+        }
+    }
+}
+
+impl Answer {
+    /// The refusal's number, or 0; and the kind, if the answer has one.
+    pub fn refusal_and_kind(&self) -> (usize, Option<usize>) {
+        match *self {
+            Answer::Refusal(n) => (n, None),
+            Answer::Part(part) => (part.refusal, None),
+            Answer::Counts(counts) => (counts.refusal, None),
+            Answer::Sum(_) | Answer::Transaction(_) => (0, None),
+            Answer::Reply(Reply { kind, value, .. }) | Answer::RecoveryReply(RecoveryReply { kind, value, .. }) => {
+                (if kind == linked::REFUSED { value } else { 0 }, Some(kind))
+            }
+        }
+    }
+
+    /// What later calls are given: the record handed back.
+    pub fn hand_back(&self, given: &mut Given) {
+        match *self {
+            Answer::Transaction(transaction) => given.transaction = transaction,
+            Answer::Reply(reply) => given.transaction = reply.transaction,
+            Answer::RecoveryReply(reply) => given.recovery = reply.recovery,
+            _ => (),
+        }
+    }
+}
+
+macro_rules! make_call {
+    ($name:ident, $side:ident) => {
+        fn $name(call: &Call, pool: &mut [u8], staging: &mut [u8], t: Transaction, r: Recovery) -> Answer {
+            match call {
+                &Call::Format { rows, cols, zones, id } => Answer::Refusal($side::format(pool, rows, cols, zones, id)),
+                Call::Mend => Answer::Refusal($side::mend(pool)),
+                &Call::Look(address) => Answer::Part($side::look(pool, address)),
+                Call::Scrub => Answer::Counts($side::scrub(pool)),
+                Call::Repair(lost) => Answer::Refusal($side::repair(pool, lost)),
+                Call::Check(bytes) => Answer::Sum($side::check(bytes)),
+                Call::Begin => Answer::Transaction($side::begin()),
+                Call::Allocate { tag, body } => Answer::Reply($side::allocate(t, pool, staging, *tag, body)),
+                Call::Write { address, at, bytes } => Answer::Reply($side::write(t, pool, staging, *address, *at, bytes)),
+                &Call::Free(address) => Answer::Reply($side::free(t, pool, staging, address)),
+                Call::Commit => Answer::Reply($side::commit(t, pool, staging)),
+                Call::CommitStep => Answer::Reply($side::commit_step(t, pool, staging)),
+                Call::Recover => Answer::RecoveryReply($side::recover(pool)),
+                Call::RecoverStep => Answer::RecoveryReply($side::recover_step(r, pool)),
+            }
+        }
+    };
+}
+
+make_call!(by_library, linked);
+make_call!(by_reference, reference);
+
+const GUARD: u8 = 0xC5;
+
+/// Bytes lent to the library from the middle of a larger piece of memory, at any alignment: it must leave the rest
+/// alone.
+struct Lent {
+    memory: Vec<u8>,
+    start: usize,
+    length: usize,
+}
+
+impl Lent {
+    fn new(bytes: &[u8], start: usize) -> Lent {
+        let mut memory = vec![GUARD; start];
+        memory.extend_from_slice(bytes);
+        memory.resize(start + bytes.len() + 64, GUARD);
+        Lent { memory, start, length: bytes.len() }
+    }
+
+    fn bytes(&mut self) -> &mut [u8] {
+        &mut self.memory[self.start..][..self.length]
+    }
+
+    fn guards_stand(&self) -> bool {
+        let (before, rest) = self.memory.split_at(self.start);
+        before.iter().chain(&rest[self.length..]).all(|&b| b == GUARD)
+    }
+}
+
+/// Makes the call on both sides. The answers, and every byte of pool and staging memory, must be equal, and nothing
+/// may change if the call is refused. `given` is left as the call leaves it.
+pub fn compare(call: &Call, given: &mut Given, alignment: usize) -> Answer {
+    let before = given.clone();
+    let (t, r) = (given.transaction, given.recovery);
+    let mut pool = Lent::new(&given.pool, 64 + alignment);
+    let mut staging = Lent::new(&given.staging, 64 + alignment / 2);
+    let got = by_library(call, pool.bytes(), staging.bytes(), t, r);
+    let wanted = by_reference(call, &mut given.pool, &mut given.staging, t, r);
+    wanted.hand_back(given);
+    let refused = wanted.refusal_and_kind().0 != 0 && !matches!(call, Call::Recover);
+    let faults = [
+        (got != wanted, "the answers differ"),
+        (pool.bytes() != given.pool, "the pools differ"),
+        (staging.bytes() != given.staging, "the staging memories differ"),
+        (!pool.guards_stand() || !staging.guards_stand(), "bytes outside the lent memory changed"),
+        (refused && *given != before, "a refused call changed something"),
+    ];
+    for (fault, what) in faults {
+        assert!(!fault, "{what}: {}\nthe library   {got:?}\nthe reference {wanted:?}", describe(call, &before));
+    }
+    wanted
+}
+
+/// The call and what it was given, in short.
+fn describe(call: &Call, given: &Given) -> String {
+    let Given { pool, staging, transaction, recovery } = given;
+    let word = |at: usize| pool.get(at..at + 8);
+    format!(
+        "{call:?}\n{transaction:?} {recovery:?} staging {} bytes, pool {} bytes, headers {:?} {:?}, seals {:?} {:?}",
+        staging.len(),
+        pool.len(),
+        pool.get(..20),
+        pool.get(256..276),
+        word(crate::layout::LOGS[0]),
+        word(crate::layout::LOGS[1]),
+    )
+}

@@ -1,0 +1,60 @@
+//! Commits and recoveries of the library driven step by step, with barriers where it asks for them, until they end or
+//! the power fails.
+use crate::memory::Memory;
+use crate::staged::Staged;
+use linked::{BARRIER, DONE, STARTED, STORED};
+
+/// Steps of a commit of so many entries, and up to the barrier after the seals.
+pub fn commit_steps(entries: usize) -> usize {
+    6 * entries + 9
+}
+
+pub fn steps_to_sealed(entries: usize) -> usize {
+    4 * entries + 4
+}
+
+/// Commits. Before the first step and after each one `goes_on` is asked, with the number of steps made, whether the
+/// power stays on. Answers whether the commit came to its end.
+pub fn commit(memory: &mut Memory, staged: &Staged, mut goes_on: impl FnMut(&Memory, usize) -> bool) -> bool {
+    let start = linked::commit(staged.transaction, memory.seen(), &staged.staging);
+    assert_eq!((start.kind, start.value), (STARTED, 0));
+    let mut transaction = start.transaction;
+    let last = commit_steps(staged.transaction.count);
+    for number in 1..=last {
+        if !goes_on(memory, number - 1) {
+            return false;
+        }
+        let reply = memory.step(|pool| linked::commit_step(transaction, pool, &staged.staging));
+        pass(memory, reply.kind, reply.value, number, last);
+        transaction = reply.transaction;
+    }
+    goes_on(memory, last)
+}
+
+/// Recovers, in no step or in those of a replay of so many entries; as `commit`.
+pub fn recover(memory: &mut Memory, entries: usize, mut goes_on: impl FnMut(&Memory, usize) -> bool) -> bool {
+    let start = linked::recover(memory.seen());
+    assert!([STARTED, DONE].contains(&start.kind) && start.value == 0, "{start:?}");
+    let mut recovery = start.recovery;
+    let last = if start.kind == DONE { 0 } else { 2 * entries + 5 };
+    for number in 1..=last {
+        if !goes_on(memory, number - 1) {
+            return false;
+        }
+        let reply = memory.step(|pool| linked::recover_step(recovery, pool));
+        pass(memory, reply.kind, reply.value, number, last);
+        recovery = reply.recovery;
+    }
+    goes_on(memory, last)
+}
+
+/// Step `number` of `last` was answered so: its number must be right, and done said after the last step only.
+fn pass(memory: &mut Memory, kind: usize, value: usize, number: usize, last: usize) {
+    assert_eq!(value, number, "the step's number");
+    assert_eq!(kind == DONE, number == last, "step {number} of {last} answers kind {kind}");
+    match kind {
+        STORED => (),
+        BARRIER | DONE => memory.barrier(),
+        _ => panic!("step {number} answers kind {kind}"),
+    }
+}

@@ -1,0 +1,18 @@
+//! What the tests of the proved library share.
+pub mod calls;
+pub mod driver;
+pub mod judge;
+pub mod layout;
+pub mod memory;
+pub mod pools;
+pub mod random;
+pub mod requests;
+pub mod staged;
+
+/// How many times the usual number of cases is run: 1, or 20 if the environment says POOL_TESTS=long.
+pub fn times() -> usize {
+    match std::env::var("POOL_TESTS").as_deref() {
+        Ok("long") => 20,
+        _ => 1,
+    }
+}

@@ -1,0 +1,126 @@
+//! The library from C: the header, the example program, and the boundary as Rust declares it.
+use linked::{Counts, Part, Recovery, RecoveryReply, Reply, Transaction};
+use std::fmt::Write;
+use std::fs;
+use std::mem::{offset_of, size_of};
+use std::path::{Path, PathBuf};
+use std::process::Command;
+
+fn repository() -> PathBuf {
+    Path::new(env!("CARGO_MANIFEST_DIR")).join("../..")
+}
+
+/// A file for this test's own use.
+fn temporary(name: &str) -> PathBuf {
+    Path::new(env!("CARGO_TARGET_TMPDIR")).join(name)
+}
+
+/// Compiles C99 with every warning an error; `more` follows the usual arguments.
+fn compile(more: &[&Path]) {
+    let mut command = Command::new("cc");
+    command.args(["-std=c99", "-Wall", "-Wextra", "-Werror", "-pedantic", "-I"]).arg(repository().join("include")).args(more);
+    let output = command.output().expect("cc runs");
+    assert!(output.status.success(), "{command:?}\n{}", String::from_utf8_lossy(&output.stderr));
+}
+
+/// Compiles and links a program with the library, runs it, and answers what it prints.
+fn run(source: &Path, name: &str) -> String {
+    let program = temporary(name);
+    compile(&[source, Path::new(linked::ARCHIVE), Path::new("-o"), &program]);
+    let output = Command::new(&program).output().expect("the program runs");
+    assert!(output.status.success(), "{name}: {}", output.status);
+    String::from_utf8(output.stdout).expect("text")
+}
+
+#[test]
+fn the_header_stands_alone() {
+    let header = repository().join("include/pool.h");
+    compile(&[Path::new("-fsyntax-only"), Path::new("-x"), Path::new("c"), &header]);
+}
+
+#[test]
+fn the_example_prints_what_it_should() {
+    let printed = run(&repository().join("examples/save.c"), "save");
+    let wanted = fs::read_to_string(repository().join("examples/save.txt")).expect("examples/save.txt");
+    assert_eq!(printed, wanted);
+    print!("linked with {}\n{printed}", linked::ARCHIVE);
+}
+
+/// A line for the size of a struct, and one for the place of each field, as C prints it and as Rust has it.
+macro_rules! layout {
+    ($c:ident, $rust:ident, $($field:ident),+) => {
+        [
+            (format!("sizeof({})", stringify!($c)), size_of::<$rust>()),
+            $((format!("offsetof({}, {})", stringify!($c), stringify!($field)), offset_of!($rust, $field))),+
+        ]
+    };
+}
+
+#[test]
+fn structs_and_numbers_are_the_same() {
+    let mut same: Vec<(String, usize)> = Vec::new();
+    same.extend(layout!(pool_transaction, Transaction, count, phase));
+    same.extend(layout!(pool_reply, Reply, kind, value, transaction));
+    same.extend(layout!(pool_recovery, Recovery, work, phase));
+    same.extend(layout!(pool_recovery_reply, RecoveryReply, kind, value, recovery));
+    same.extend(layout!(pool_part, Part, refusal, offset, length));
+    same.extend(layout!(pool_counts, Counts, refusal, objects, damaged, broken, columns));
+    let kinds = ["REFUSED", "ADDRESS", "TAKEN", "STARTED", "STORED", "BARRIER", "DONE"];
+    let numbers = [linked::REFUSED, linked::ADDRESS, linked::TAKEN, linked::STARTED, linked::STORED, linked::BARRIER, linked::DONE];
+    same.extend(kinds.into_iter().zip(numbers).map(|(kind, number)| (format!("POOL_{kind}"), number)));
+    same.extend([("POOL_STAGING", 2032), ("POOL_BODY", 496)].map(|(name, number)| (name.to_string(), number)));
+    same.extend([("2, 2, 1", 6144), ("15, 64, 16", 4_198_912)].map(|(shape, length)| (format!("POOL_SIZE({shape})"), length)));
+
+    let mut program = "#include <stdio.h>\n#include \"pool.h\"\nint main(void)\n{\n".to_string();
+    let mut wanted = String::new();
+    for (expression, number) in same {
+        writeln!(program, "    printf(\"%zu\\n\", (size_t)({expression}));").unwrap();
+        writeln!(wanted, "{number}").unwrap();
+    }
+    program += "    return 0;\n}\n";
+    let source = temporary("numbers.c");
+    fs::write(&source, program).unwrap();
+    assert_eq!(run(&source, "numbers"), wanted);
+}
+
+/// The functions as Rust declares them, put into C after the header: the compiler refuses any that differs from the
+/// header's.
+#[test]
+fn functions_are_declared_alike() {
+    let header = fs::read_to_string(repository().join("include/pool.h")).unwrap();
+    let rust = fs::read_to_string(repository().join("rust/linked/src/boundary.rs")).unwrap();
+    let declarations: Vec<String> = rust.split("pub fn ").skip(1).map(c_declaration).collect();
+    let in_header = header.lines().filter(|line| line.starts_with(char::is_alphabetic) && line.contains(" pool_") && line.contains('('));
+    assert_eq!(declarations.len(), in_header.count());
+    let source = temporary("declarations.c");
+    fs::write(&source, format!("#include \"pool.h\"\n{}\n", declarations.join("\n"))).unwrap();
+    compile(&[Path::new("-fsyntax-only"), &source]);
+}
+
+/// `name(argument: type, ..) -> type;` in C.
+fn c_declaration(rust: &str) -> String {
+    let (declaration, _) = rust.split_once(';').expect("a declaration");
+    let (name, rest) = declaration.split_once('(').expect("arguments");
+    let (arguments, result) = rest.split_once(") -> ").expect("a result");
+    let types: Vec<&str> = arguments.split(',').filter_map(|argument| argument.split_once(": ")).map(|(_, t)| c_type(t.trim())).collect();
+    let arguments = if types.is_empty() { "void".to_string() } else { types.join(", ") };
+    format!("{} {name}({arguments});", c_type(result.trim()))
+}
+
+fn c_type(rust: &str) -> &'static str {
+    match rust {
+        "usize" => "size_t",
+        "u64" => "uint64_t",
+        "u32" => "uint32_t",
+        "*mut u8" => "uint8_t *",
+        "*const u8" => "const uint8_t *",
+        "*const u16" => "const uint16_t *",
+        "Transaction" => "pool_transaction",
+        "Reply" => "pool_reply",
+        "Recovery" => "pool_recovery",
+        "RecoveryReply" => "pool_recovery_reply",
+        "Part" => "pool_part",
+        "Counts" => "pool_counts",
+        other => panic!("{other} is not a type of the boundary"),
+    }
+}

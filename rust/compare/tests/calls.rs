@@ -1,0 +1,169 @@
+//! The library against the reference: every answer, and every byte of pool, staging memory and record, over random
+//! pools and requests.
+use compare::calls::{compare, Call, Given};
+use compare::layout::{Shape, LARGEST};
+use compare::random::Random;
+use compare::{pools, requests, times};
+use std::collections::{BTreeMap, BTreeSet};
+
+/// What each call can answer. `2` stands twice: "2 short" under 512 bytes, "2 length" after the headers.
+const ANSWERS: [(&str, &str); 12] = [
+    ("format", "0, 1, 2 short, 2 length"),
+    ("mend", "0, 2 short, 3, 4, 2 length"),
+    ("look", "0, 2 short, 3, 4, 2 length, 21, 5, 23, 24, 25"),
+    ("scrub", "0, 2 short, 3, 4, 2 length, 21"),
+    ("repair", "0, 2 short, 3, 4, 2 length, 21, 8, 28"),
+    ("allocate", "address, 2 short, 3, 4, 2 length, 9, 10, 29, 21, 6, 23, 26, 27"),
+    ("write", "taken, 2 short, 3, 4, 2 length, 9, 10, 29, 21, 5, 23, 24, 25, 7, 27"),
+    ("free", "taken, 2 short, 3, 4, 2 length, 9, 10, 29, 21, 5, 23, 24, 25, 27"),
+    ("commit", "started, done, 2 short, 3, 4, 2 length, 9, 10, 29, 21"),
+    ("commit_step", "stored, barrier, done, 2 short, 3, 4, 2 length, 9, 10, 29, 21"),
+    ("recover", "started, done, 2 short, 3, 4, 2 length, 22"),
+    ("recover_step", "stored, barrier, done, 2 short, 3, 4, 2 length, 10, 29"),
+];
+
+const KINDS: [&str; 7] = ["refused", "address", "taken", "started", "stored", "barrier", "done"];
+
+/// Random requests, compared and counted.
+struct Comparison {
+    random: Random,
+    counts: BTreeMap<(&'static str, String), usize>,
+}
+
+impl Comparison {
+    fn new(seed: u64) -> Comparison {
+        println!("seed {seed}");
+        Comparison { random: Random::new(seed), counts: BTreeMap::new() }
+    }
+
+    /// Makes one call on both sides; answers whether it started or went on with steps.
+    fn make(&mut self, call: &Call, given: &mut Given) -> bool {
+        let short = given.pool.len() < 512;
+        let answer = compare(call, given, self.random.below(16));
+        let what = match answer.refusal_and_kind() {
+            (2, _) => if short { "2 short" } else { "2 length" }.to_string(),
+            (0, Some(kind)) => KINDS[kind].to_string(),
+            (n, _) => n.to_string(),
+        };
+        let goes_on = ["started", "stored", "barrier"].contains(&what.as_str());
+        *self.counts.entry((call.name(), what)).or_default() += 1;
+        goes_on
+    }
+
+    /// Makes steps until they end, or, once in so many times, stops before.
+    fn make_steps(&mut self, step: Call, given: &mut Given, stop: usize) {
+        while self.make(&step, given) && !self.random.once_in(stop) {}
+    }
+
+    /// Some calls on one pool, each given what the one before left; commits and recoveries that start are stepped on.
+    fn make_calls(&mut self, shape: Shape, given: &mut Given, calls: usize) {
+        for _ in 0..calls {
+            let call = requests::call(&mut self.random, shape, given);
+            let started = self.make(&call, given);
+            match call {
+                Call::Commit if started => self.make_steps(Call::CommitStep, given, 500),
+                Call::Recover if started => self.make_steps(Call::RecoverStep, given, 200),
+                Call::CommitStep | Call::RecoverStep if started => self.make_steps(call, given, 4),
+                _ => (),
+            }
+            self.disturb(shape, given);
+        }
+    }
+
+    /// A transaction on a sound pool: some calls, its commit with all steps, then what the pool holds.
+    fn make_transaction(&mut self, shape: Shape) {
+        let pool = pools::filled(&mut self.random, shape);
+        let staging = self.random.bytes(2032);
+        let recovery = requests::recovery(&mut self.random, &pool);
+        let mut given = Given { pool, staging, transaction: linked::begin(), recovery };
+        for _ in 0..self.random.from_to(1, 10) {
+            let call = requests::staging_call(&mut self.random, shape, &given);
+            self.make(&call, &mut given);
+        }
+        if self.make(&Call::Commit, &mut given) {
+            self.make_steps(Call::CommitStep, &mut given, usize::MAX);
+        }
+        self.make(&Call::Scrub, &mut given);
+        for address in 0..shape.zones * shape.cells().min(16) {
+            self.make(&Call::Look(address), &mut given);
+        }
+    }
+
+    /// Now and then, other records or staging memory, or damage.
+    fn disturb(&mut self, shape: Shape, given: &mut Given) {
+        let random = &mut self.random;
+        match random.below(24) {
+            0 | 1 => given.transaction = linked::begin(),
+            2 if given.pool.len() >= shape.length() => {
+                (given.staging, given.transaction) = requests::staged(random, shape, &given.pool);
+            }
+            3 if given.pool.len() >= shape.length() => given.recovery = requests::recovery(random, &given.pool),
+            4 if given.pool.len() >= shape.length() => pools::damage(random, shape, &mut given.pool),
+            _ => (),
+        }
+    }
+
+    /// How often each call gave each answer.
+    fn print(&self) {
+        for (call, _) in ANSWERS {
+            let of_call = self.counts.iter().filter(|((name, _), _)| *name == call);
+            let counts: Vec<String> = of_call.map(|((_, answer), count)| format!("[{answer}] {count}")).collect();
+            println!("{call:12} {}", counts.join("  "));
+        }
+        println!("{} calls compared", self.counts.values().sum::<usize>());
+    }
+
+    /// Each answer of the table must have been met, and no other.
+    fn all_met(&self) {
+        for (call, answers) in ANSWERS {
+            let met = self.counts.keys().filter(|(name, _)| *name == call).map(|(_, answer)| answer.as_str());
+            assert_eq!(met.collect::<BTreeSet<_>>(), answers.split(", ").collect::<BTreeSet<_>>(), "answers of {call}");
+        }
+    }
+}
+
+#[test]
+fn calls_on_random_pools() {
+    let mut comparison = Comparison::new(1);
+    for _ in 0..40_000 * times() {
+        let shape = pools::shape(&mut comparison.random);
+        let mut given = requests::given(&mut comparison.random, shape);
+        let calls = comparison.random.from_to(1, 12);
+        comparison.make_calls(shape, &mut given, calls);
+    }
+    comparison.print();
+    comparison.all_met();
+}
+
+#[test]
+fn transactions_on_sound_pools() {
+    let mut comparison = Comparison::new(4);
+    for _ in 0..4_000 * times() {
+        let shape = pools::shape(&mut comparison.random);
+        comparison.make_transaction(shape);
+    }
+    comparison.print();
+}
+
+#[test]
+fn calls_on_the_largest_pools() {
+    let mut comparison = Comparison::new(2);
+    for _ in 0..20 * times() {
+        let mut given = requests::given(&mut comparison.random, LARGEST);
+        comparison.make_calls(LARGEST, &mut given, 8);
+    }
+    comparison.make_transaction(LARGEST);
+    comparison.print();
+}
+
+#[test]
+fn check_of_random_bytes() {
+    let mut comparison = Comparison::new(3);
+    let mut given =
+        Given { pool: Vec::new(), staging: Vec::new(), transaction: linked::begin(), recovery: linked::Recovery { work: 0, phase: 0 } };
+    for length in (0..600).chain([5551, 5552, 5553, 65520, 65521, 65522, 1 << 20]) {
+        let bytes = comparison.random.bytes(length);
+        comparison.make(&Call::Check(bytes), &mut given);
+        comparison.make(&Call::Check(vec![0xFF; length]), &mut given);
+    }
+}

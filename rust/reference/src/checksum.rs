@@ -1,0 +1,52 @@
+//! The check: two sums modulo 65521, high * 65536 + low.
+
+const MODULUS: u32 = 65521;
+
+/// The sums after the bytes added so far.
+#[derive(Clone, Copy)]
+pub struct Sums {
+    low: u32,
+    high: u32,
+}
+
+impl Sums {
+    pub const START: Sums = Sums { low: 1, high: 0 };
+
+    /// The low sum adds each byte; the high one adds the new low sum after each byte.
+    pub fn add(self, bytes: &[u8]) -> Sums {
+        let Sums { mut low, mut high } = self;
+        for &byte in bytes {
+            low += u32::from(byte);
+            if low >= MODULUS {
+                low -= MODULUS;
+            }
+            high += low;
+            if high >= MODULUS {
+                high -= MODULUS;
+            }
+        }
+        Sums { low, high }
+    }
+
+    pub fn check(self) -> u32 {
+        self.high << 16 | self.low
+    }
+}
+
+pub fn check(bytes: &[u8]) -> u32 {
+    Sums::START.add(bytes).check()
+}
+
+/// The check of `length` bytes after the old ones, from place `at` on, are replaced by the new ones. A byte at place i
+/// that changes from u to v moves the low sum by v - u and the high one by (length - i) * (v - u).
+pub fn updated(check: u32, length: usize, at: usize, old: &[u8], new: &[u8]) -> u32 {
+    let mut low = i64::from(check & 0xffff);
+    let mut high = i64::from(check >> 16);
+    for (i, (&u, &v)) in old.iter().zip(new).enumerate() {
+        let change = i64::from(v) - i64::from(u);
+        low += change;
+        high += (length - at - i) as i64 * change;
+    }
+    let reduced = |sum: i64| sum.rem_euclid(i64::from(MODULUS)) as u32;
+    reduced(high) << 16 | reduced(low)
+}

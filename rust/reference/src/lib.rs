@@ -1,0 +1,24 @@
+//! The object pool of document 01 in plain Rust, written from the document alone. Tests compare the proved library with
+//! it, and the benchmark measures it as the baseline. It allocates nothing and uses no unsafe code.
+
+#![forbid(unsafe_code)]
+
+mod checksum;
+mod header;
+mod layout;
+mod log;
+mod pages;
+mod records;
+mod refusal;
+mod runs;
+mod steps;
+mod transaction;
+mod writeset;
+
+pub use checksum::check;
+pub use header::mend;
+pub use pages::{format, repair, scrub};
+pub use records::*;
+pub use runs::look;
+pub use steps::{commit_step, recover, recover_step};
+pub use transaction::{allocate, begin, commit, free, write};

@@ -1,0 +1,87 @@
+//! What the calls take and answer, as in pool.h.
+
+/// The entries staged, and the phase: 0 open, 1 closed, k + 2 after k steps of the commit.
+#[repr(C)]
+#[derive(Clone, Copy, Debug, PartialEq, Eq)]
+pub struct Transaction {
+    pub count: usize,
+    pub phase: usize,
+}
+
+#[repr(C)]
+#[derive(Clone, Copy, Debug, PartialEq, Eq)]
+pub struct Reply {
+    pub kind: usize,
+    pub value: usize,
+    pub transaction: Transaction,
+}
+
+/// The work: 0 nothing, 1 clear both seals, 2 neither log is valid, 2n + 3 replay log A with n entries, 2n + 4 replay
+/// log B with n entries. The phase: 0 finished, k + 1 after k steps.
+#[repr(C)]
+#[derive(Clone, Copy, Debug, PartialEq, Eq)]
+pub struct Recovery {
+    pub work: usize,
+    pub phase: usize,
+}
+
+#[repr(C)]
+#[derive(Clone, Copy, Debug, PartialEq, Eq)]
+pub struct RecoveryReply {
+    pub kind: usize,
+    pub value: usize,
+    pub recovery: Recovery,
+}
+
+/// The part of the pool that holds an object's body. If refused, offset and length are 0.
+#[repr(C)]
+#[derive(Clone, Copy, Debug, PartialEq, Eq)]
+pub struct Part {
+    pub refusal: usize,
+    pub offset: usize,
+    pub length: usize,
+}
+
+/// Objects met, damaged ones, broken zones, columns with wrong parity. If refused, the counts are 0.
+#[repr(C)]
+#[derive(Clone, Copy, Debug, PartialEq, Eq)]
+pub struct Counts {
+    pub refusal: usize,
+    pub objects: usize,
+    pub damaged: usize,
+    pub broken: usize,
+    pub columns: usize,
+}
+
+// The kinds of a reply; its value is
+pub const REFUSED: usize = 0; // the refusal's number
+pub const ADDRESS: usize = 1; // the address of the object allocated
+pub const TAKEN: usize = 2; // 0
+pub const STARTED: usize = 3; // 0
+pub const STORED: usize = 4; // the step's number, from 1
+pub const BARRIER: usize = 5; // the step's number, from 1
+pub const DONE: usize = 6; // the number of steps
+
+impl Transaction {
+    pub(crate) const OPEN: usize = 0;
+    pub(crate) const CLOSED: usize = 1;
+    pub(crate) const COMMITTING: usize = 2; // plus the number of steps made
+
+    pub(crate) fn reply(self, kind: usize, value: usize) -> Reply {
+        Reply { kind, value, transaction: self }
+    }
+}
+
+impl Recovery {
+    pub(crate) const NOTHING: usize = 0;
+    pub(crate) const CLEAR: usize = 1;
+    pub(crate) const NO_LOG: usize = 2;
+    pub(crate) const REPLAY: usize = 3; // plus 2n, plus 1 for log B
+
+    pub(crate) const FINISHED: usize = 0;
+    pub(crate) const RECOVERING: usize = 1; // plus the number of steps made
+
+    pub(crate) fn reply(self, kind: usize, value: usize) -> RecoveryReply {
+        RecoveryReply { kind, value, recovery: self }
+    }
+}

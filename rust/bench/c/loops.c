@@ -1,0 +1,74 @@
+/* The byte loop of document 01's check, and the work of a scrub over a well-formed pool. */
+#include <stddef.h>
+#include <stdint.h>
+#include <string.h>
+
+enum { PAGE = 256, CELL = 64, HEAD = 16, ZONES = 18 * PAGE, MODULUS = 65521, OBJECT = 2 };
+
+struct sums {
+    uint32_t low, high;
+};
+
+static struct sums add(struct sums sums, const uint8_t *bytes, size_t length)
+{
+    uint32_t low = sums.low, high = sums.high;
+    for (size_t i = 0; i < length; i++) {
+        low += bytes[i];
+        if (low >= MODULUS)
+            low -= MODULUS;
+        high += low;
+        if (high >= MODULUS)
+            high -= MODULUS;
+    }
+    return (struct sums){low, high};
+}
+
+uint32_t loop_check(const uint8_t *bytes, size_t length)
+{
+    struct sums sums = add((struct sums){1, 0}, bytes, length);
+    return sums.high << 16 | sums.low;
+}
+
+static uint32_t number(const uint8_t *bytes, size_t length)
+{
+    uint32_t value = 0;
+    memcpy(&value, bytes, length);
+    return value;
+}
+
+static int object_is_damaged(const uint8_t *head)
+{
+    struct sums sums = add((struct sums){1, 0}, head, 8);
+    sums = add(sums, head + 12, 4);
+    sums = add(sums, head + HEAD, number(head + 4, 4));
+    return number(head + 8, 4) != (sums.high << 16 | sums.low);
+}
+
+static int column_is_wrong(const uint8_t *page, size_t rows, size_t row)
+{
+    uint64_t sum[PAGE / 8] = {0}, any = 0;
+    for (size_t r = 0; r <= rows; r++)
+        for (size_t i = 0; i < PAGE / 8; i++) {
+            uint64_t word;
+            memcpy(&word, page + r * row + 8 * i, 8);
+            sum[i] ^= word;
+        }
+    for (size_t i = 0; i < PAGE / 8; i++)
+        any |= sum[i];
+    return any != 0;
+}
+
+/* Damaged objects and columns with wrong parity: the check of all bodies and the exclusive or of all rows. */
+size_t loop_scrub(const uint8_t *pool, size_t rows, size_t cols, size_t zones)
+{
+    size_t row = cols * PAGE, faults = 0;
+    for (size_t zone = 0; zone < zones; zone++) {
+        const uint8_t *start = pool + ZONES + zone * (rows + 1) * row;
+        for (const uint8_t *head = start; head < start + rows * row; head += number(head + 2, 2) * CELL)
+            if (number(head, 2) == OBJECT)
+                faults += object_is_damaged(head);
+        for (size_t column = 0; column < cols; column++)
+            faults += column_is_wrong(start + column * PAGE, rows, row);
+    }
+    return faults;
+}

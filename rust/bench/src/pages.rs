@@ -1,0 +1,98 @@
+//! Rows over bytes and whole pools: check, scrub, repair.
+use crate::fixture::{filled, Pool, Shape, LARGEST, PAGE, SMALL};
+use crate::library::{PLAIN, PROVED};
+use crate::measure::best;
+use crate::native;
+use crate::report::{Row, Unit};
+use std::hint::black_box;
+
+pub fn check() -> Vec<Row> {
+    let bytes: Vec<u8> = (0..65_536u32).map(|i| ((i * i) >> 7) as u8).collect();
+    [(496, "496 bytes"), (65_536, "64 KiB")].map(|(length, size)| check_row(&bytes[..length], size)).into()
+}
+
+fn check_row(bytes: &[u8], size: &str) -> Row {
+    let mut functions = vec![PROVED.check, PLAIN.check, native::loop_check];
+    functions.extend(native::zlib_check());
+    let right = reference::check(bytes);
+    let mut calls: Vec<_> = functions.iter().map(|check| || assert_eq!(check(black_box(bytes)), right)).collect();
+    let times = best(&mut calls.iter_mut().map(|call| call as &mut dyn FnMut()).collect::<Vec<_>>());
+    let row = Row::new("check", "check", size, Unit::Rate { bytes: bytes.len() }, times[0], times[1]);
+    Row { c: Some(times[2]), other: times[3..].iter().map(|&time| ("zlib", time)).collect(), ..row }
+}
+
+pub fn scrub() -> Vec<Row> {
+    let rows = [SMALL, LARGEST].map(|shape| [120, 496].map(|body| scrub_row(shape, body)));
+    rows.into_iter().flatten().collect()
+}
+
+fn scrub_row(shape: Shape, body: usize) -> Row {
+    let (pool, addresses) = filled(shape, body, usize::MAX);
+    let right = reference::scrub(&pool);
+    assert_eq!((right.objects, right.damaged, right.columns), (addresses.len(), 0, 0));
+    let mut proved = || assert_eq!((PROVED.scrub)(black_box(&pool)), right);
+    let mut plain = || assert_eq!((PLAIN.scrub)(black_box(&pool)), right);
+    let mut c = || assert_eq!(native::loop_scrub(black_box(&pool), shape), 0);
+    let times = best(&mut [&mut proved, &mut plain, &mut c]);
+    let what = format!("scrub {} full of {body}-byte objects", shape.name());
+    let zones = pool.len() - shape.zone_start(0);
+    let row = Row::new("scrub", what, bytes(zones), Unit::Rate { bytes: zones }, times[0], times[1]);
+    Row { c: Some(times[2]), ..row }
+}
+
+fn bytes(length: usize) -> String {
+    format!("{} KiB", length as f64 / 1024.0)
+}
+
+pub fn repair() -> Vec<Row> {
+    [SMALL, LARGEST].map(repair_row).into()
+}
+
+type Repair<'a> = Box<dyn Fn(&mut Pool) + 'a>;
+
+/// One page lost in each column, in one row after the other.
+fn repair_row(shape: Shape) -> Row {
+    let (pool, _) = filled(shape, 120, usize::MAX);
+    let columns = columns(shape);
+    let mut lossy = pool.clone();
+    columns.iter().for_each(|pages| lossy[*pages.last().unwrap()..][..PAGE].fill(0xEE));
+    let lost: Vec<u16> = (0..columns.len()).map(|i| 1 << (i % (shape.rows + 1))).collect();
+    let mut repairs: Vec<(&str, Repair)> = vec![
+        ("library", Box::new(|pool| assert_eq!((PROVED.repair)(pool, black_box(&lost)), 0))),
+        ("plain Rust", Box::new(|pool| assert_eq!((PLAIN.repair)(pool, black_box(&lost)), 0))),
+        ("Rust xor loop", Box::new(|pool| columns.iter().for_each(|pages| xor_loop(pool, pages)))),
+    ];
+    if let Some(xor) = native::isal_xor() {
+        let columns = &columns;
+        repairs.push(("ISA-L", Box::new(move |pool| columns.iter().for_each(|pages| xor(pool, pages)))));
+    }
+    let mut copies = vec![lossy; repairs.len()];
+    let mut calls: Vec<_> = repairs.iter().zip(&mut copies).map(|((_, repair), copy)| || repair(copy)).collect();
+    let times = best(&mut calls.iter_mut().map(|call| call as &mut dyn FnMut()).collect::<Vec<_>>());
+    assert!(copies.iter().all(|copy| copy[..] == pool[..]));
+    let what = format!("repair {}, one page a column", shape.name());
+    let touched = columns.len() * (shape.rows + 1) * PAGE;
+    let row = Row::new("repair", what, bytes(touched), Unit::Rate { bytes: touched }, times[0], times[1]);
+    Row { other: repairs.iter().zip(times).skip(2).map(|(&(name, _), time)| (name, time)).collect(), ..row }
+}
+
+/// For each column the offsets of its pages, the lost one last.
+fn columns(shape: Shape) -> Vec<Vec<usize>> {
+    let pages = |i: usize| {
+        let first = shape.zone_start(i / shape.cols) + i % shape.cols * PAGE;
+        let lost = i % (shape.rows + 1);
+        let others = (0..=shape.rows).filter(move |&row| row != lost);
+        others.chain([lost]).map(|row| first + row * shape.row()).collect()
+    };
+    (0..shape.zones * shape.cols).map(pages).collect()
+}
+
+/// The last page becomes the exclusive or of the others.
+fn xor_loop(pool: &mut [u8], pages: &[usize]) {
+    let (lost, others) = pages.split_last().unwrap();
+    let mut sum = [0u8; PAGE];
+    for &page in others {
+        sum.iter_mut().zip(&pool[page..page + PAGE]).for_each(|(sum, byte)| *sum ^= byte);
+    }
+    pool[*lost..lost + PAGE].copy_from_slice(&sum);
+}

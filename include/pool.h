@@ -3,8 +3,10 @@
  *
  * No call allocates, prints, waits or keeps anything: all memory is lent by the caller, and each call ends with an answer, whatever
  * bytes and numbers it is given. Each pointer is followed by its length, in elements. A pointer may not be NULL, also where the length
- * is 0, and points to that many elements. Two pieces of memory lent to one call may not overlap, unless both are only read. No
- * alignment is asked of uint8_t memory.
+ * is 0, and points to that many elements. Two pieces of memory lent to one call may not overlap, unless both are only read.
+ *
+ * Bytes may lie at any address; but a pool that is to survive power cuts begins at a multiple of 8, so that the store of a step is one
+ * aligned store of 8 bytes, which the memory keeps or loses whole.
  *
  * A call that is refused changes nothing: no byte of the pool or of the staging memory, and it hands back the record that it was
  * given. If several refusals apply, the first is answered, in the order 1, 2 (under 512 bytes), 3, 4, 2 (length), 9, 10, 29, 21, 22, 6,

@@ -29,8 +29,8 @@ use Rattle.powercut.specs.Steps.{commitSteps, redo}
 use Rattle.powercut.specs.Power.{State, act, isSeal, keep, view}
 use Rattle.powercut.specs.Commit.{commitList, commitNext, commitStart, commitStep, commitTests, isCommitting, nextPhase, placeIn, startAnswer, startPhase, stepAnswer, madeAnswer}
 use Rattle.powercut.specs.Recovery.{Recovery, recovering, recoveryList}
-use Rattle.powercut.specs.WholeRun.{Accepted, Run, begin, commit, cut, cutOff, entries, holding, made, meets, resuming, step}
-use Rattle.powercut.specs.Claim.{Committed, Requirement3, oldOrNew}
+use Rattle.powercut.specs.WholeRun.{Accepted, Makes, Run, begin, commit, cut, cutOff, entries, holding, made, meets, next, resuming, step}
+use Rattle.powercut.specs.Claim.{End, Requirement3, oldOrNew}
 
 -- Each definition that the run goes through, opened at once.
 opened : Unit {0}
@@ -72,7 +72,7 @@ run-begins = begin
 
 pub run-starts : Run pool staging ks (holding (txn (committing 0))) (state [])
 unfolding opened
-run-starts = commit begin refl
+run-starts = next begin (commit refl)
 
 -- The first step: the target of the first entry, into log A.
 abbrev stored : Store
@@ -80,7 +80,7 @@ stored = record { at = 528; val = 4608 }
 
 pub run-steps : Run pool staging ks (holding (txn (committing 1))) (state (stored ∷ []))
 unfolding opened
-run-steps = step (commit begin refl) refl
+run-steps = next run-starts (step refl)
 
 -- A cut that loses the store leaves the pool as it was.
 pub run-cut : Run pool staging ks cutOff (state [])
@@ -97,13 +97,18 @@ refused-not-accepted n e = e
 pub commit-length : Requirement3 pool staging ks → (t : Transaction) (s : State) (k : ℕ) → Run pool staging ks (holding t) s → t .phase ≡ committing k
     → length (commitList (meets pool staging ks s t)) ≡ 21
 unfolding opened
-commit-length r t s k run e = r .steps t s k run e .3
+commit-length r t s k run e = r .steps t s k run e .count
 
 pub recovery-length : Requirement3 pool staging ks → (r : Recovery) (s : State) (k : ℕ) → Run pool staging ks (resuming r) s → r .phase ≡ recovering k
     → length (recoveryList (view s) r) ≡ 9
 unfolding opened
-recovery-length c r s k run e = c .resumes r s k run e .3
+recovery-length c r s k run e = c .resumes r s k run e .count
 
-pub joined-cells : (s : State) → Committed pool staging ks s → getD (view s) 4610 0 ≡ 4
+-- All new has the joined run of 4 cells, all old the free run of 3.
+pub joined-cells : (s : State) → End pool staging ks s true → getD (view s) 4610 0 ≡ 4
 unfolding opened
 joined-cells s c = c .data-rows 4610 (omega arith) (omega arith) (omega arith)
+
+pub old-cells : (s : State) → End pool staging ks s false → getD (view s) 4610 0 ≡ 3
+unfolding opened
+old-cells s c = c .data-rows 4610 (omega arith) (omega arith) (omega arith)

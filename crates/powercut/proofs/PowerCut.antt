@@ -9,7 +9,7 @@ use native.Mathlib.Nat.{not-suc-le-zero}
 use native.Mathlib.Omega.{arith}
 use lib.Dec.{ltb, eqb}
 use lib.ListN.{length}
-use borrow.Author.Tests.{eq-eqb, ne-eqb, ltb-true, lt-ltb, le-ltb, lt-leb}
+use borrow.Author.Tests.{eq-eqb, eqb-true, ne-eqb, ltb-true, lt-ltb, le-ltb, lt-leb}
 use Rattle.rules.specs.Words.{Bytes, word}
 use Rattle.rules.specs.Shape.{Shape, entryLimit, stagingSize}
 use Rattle.rules.specs.Test.{first, when}
@@ -30,12 +30,12 @@ use Rattle.powercut.specs.Steps.{Remedy, Step, barrier, clear, commitSte
 use Rattle.powercut.specs.Power.{State, act, view}
 use Rattle.powercut.specs.Commit.{commitList, commitNext, commitStart, commitStep, commitTests, isCommitting, nextPhase, placeIn, startAnswer, startPhase, stepAnswer, madeAnswer}
 use Rattle.powercut.specs.Recovery.{Progress, Recovery, concludeRecovery, countAbove, doneSteps, finished, impossibleRecovery, isNeither, isRecovering, logLost, nextProgress, recovering, recoveryList, recoveryNext, recoveryStart, recoveryStep, recoveryTests, startRecovery}
-use Rattle.powercut.specs.WholeRun.{Accepted, Run, cutOff, entries, holding, made, meets, resuming}
-use Rattle.powercut.specs.Claim.{End, PowerCut, new, oldOrNew}
-use Rattle.powercut.proofs.StepRun.{StepRun, Ended, Position, atCommit, atRecovery, old-or-new}
+use Rattle.powercut.specs.WholeRun.{Accepted, Holds, Makes, Run, Uncut, atFirst, cutOff, entries, holding, made, meets, resuming}
+use Rattle.powercut.specs.Claim.{End, EndsIn, Over, PowerCut, StepTaken, new, oldOrNew, stagedOrOld}
+use Rattle.powercut.proofs.StepRun.{StepRun, Ended, Position, atCommit, atRecovery}
 use Rattle.powercut.proofs.StepCount.{replay-count}
 use Rattle.powercut.proofs.StepPool.{uncut-view, view-act}
-use Rattle.powercut.proofs.RunMatches.{CommitMatches, Input, RecoveryMatches, again-left, claim, done-is, entries-met, few, held, left-staging, list-met, live-is, opens, place-is, recoveryStartTests, clean, run-matches, same-head, shape-is, some-step-run, start-left, start-none, step-left, steps-length, targets}
+use Rattle.powercut.proofs.RunMatches.{CommitMatches, Input, RecoveryMatches, again-left, claim, count-is, done-is, entries-met, few, front-kept, held, left-staging, list-met, live-is, opens, place-is, recoveryStartTests, clean, run-matches, same-head, shape-is, some-step-run, start-left, start-none, step-left, steps-length, targets}
 use Rattle.rules.proofs.Bool.{split}
 use Rattle.rules.proofs.Transaction.{calls-short}
 
@@ -138,6 +138,14 @@ start-some : (n : ℕ) → startPhase (suc n) ≡ committing 0
 unfolding startPhase
 start-some n = refl
 
+length-none : {n : ℕ} → 0 ≡ n → 0 ≡ commitLength n
+unfolding commitLength
+length-none e = ap commitLength e
+
+length-some : (m : ℕ) {n : ℕ} → suc m ≡ n → 6 * n + 9 ≡ commitLength n
+unfolding commitLength
+length-some m e = subst (λ (n : ℕ). 6 * n + 9 ≡ commitLength n) e refl
+
 module _ (inp : Input) where
   abbrev pool : List ℕ
   pool = inp .pool
@@ -162,26 +170,37 @@ module _ (inp : Input) where
 
   -- ---- the ends
 
-  staged-good : (b : Bool) → Bytes (old-or-new sh b pool es) × (length (old-or-new sh b pool es) ≡ length pool)
-      × (goodFrom sh (old-or-new sh b pool es) 0 (sh .zones) ≡ true) × (poolBook sh (old-or-new sh b pool es) ≡ oldOrNew pool staging ks b)
+  staged-good : (b : Bool) → Bytes (stagedOrOld b pool es) × (length (stagedOrOld b pool es) ≡ length pool)
+      × (goodFrom sh (stagedOrOld b pool es) 0 (sh .zones) ≡ true) × (poolBook sh (stagedOrOld b pool es) ≡ oldOrNew pool staging ks b)
   staged-good true =
       let h = held-end sh pool es (new pool staging ks) (sound-fits pool sound) (held inp) in
       (bytes-lay pool es (sound .bytes), length-lay pool es, h .0, h .1)
   staged-good false = (sound .bytes, refl, sound .zones, unfold bookOf in refl)
 
-  ended-end : (s : State) (b : Bool) {f : Position} → StepRun sh es pool f s → Ended sh pool es s b → End s (oldOrNew pool staging ks b)
+  ended-end : (s : State) (b : Bool) {f : Position} → StepRun sh es pool f s → Ended sh pool es s b → End pool staging ks s b
+  unfolding unsealed
   ended-end s b c e =
       let v = staged-good b in
-      let r = sound-again pool (view s) (old-or-new sh b pool es) (oldOrNew pool staging ks b) sound (e .clean .bytes) (same-head inp c)
+      let r = sound-again pool (view s) (stagedOrOld b pool es) (oldOrNew pool staging ks b) sound (e .clean .bytes) (same-head inp c)
       (e .clean .sealA) (e .clean .sealB) (e .clean .right) (v .0) (v .1) (e .same) (v .2) (v .3) in
-      record { behind = e .behind; sound = r .0; books = r .1; repairs = λ q ms l. repair-restores (view s) q ms (r .0) l }
+      record {
+        behind = e .behind;
+        sound = r .0;
+        books = r .1;
+        repairs = λ q ms l. repair-restores (view s) q ms (r .0) l;
+        size = front-kept inp c .0;
+        headers = front-kept inp c .1;
+        data-rows = e .same;
+        seals = rw (e .clean .sealA, e .clean .sealB);
+        parity = e .clean .right;
+      }
 
-  uncut : (t : Transaction) (s : State) → Run pool staging ks (holding t) s → t .phase ≡ closed → End s (new pool staging ks)
+  uncut : (t : Transaction) (s : State) → Run pool staging ks (holding t) s → t .phase ≡ closed → End pool staging ks s true
   uncut t s r e =
       let c : CommitMatches inp closed s = subst (λ (f : Phase). CommitMatches inp f s) e (run-matches inp r .1) in
       ended-end s true c (claim inp .uncut s c)
 
-  recovered : (r : Recovery) (s : State) → Run pool staging ks (resuming r) s → r .phase ≡ finished → End s (oldOrNew pool staging ks (s .reached))
+  recovered : (r : Recovery) (s : State) → Run pool staging ks (resuming r) s → r .phase ≡ finished → End pool staging ks s (s .reached)
   recovered r s u e =
       let c : RecoveryMatches inp (r .work) finished s = subst (λ (f : Progress). RecoveryMatches inp (r .work) f s) e (run-matches inp u) in
       ended-end s (s .reached) c (claim inp .recovered s (r .work) _ c refl)
@@ -216,22 +235,20 @@ module _ (inp : Input) where
       (rw e, (rw (sealed-not s _ c (ap view i)), tt)))
 
   steps : (t : Transaction) (s : State) (k : ℕ) → Run pool staging ks (holding t) s → t .phase ≡ committing k
-      → Accepted (commitStep (met s t) .answer)
-      × (commitStep (met s t) .left .pool ≡ view (act sh es (commitNext (met s t)) s))
-      × (k < length (commitList (met s t)))
-      × (length (commitList (met s t)) ≡ 6 * length es + 9)
+      → StepTaken pool staging ks (commitStep (met s t) .answer) (commitStep (met s t) .left .pool) s (commitNext (met s t)) k (commitList (met s t)) (6 * length es + 9)
   steps t s k r e =
       let h = run-matches inp r in
       let c : CommitMatches inp (committing k) s = subst (λ (f : Phase). CommitMatches inp f s) e (h .1) in
       let m = list-met inp s t (c .2) (h .0) in
       let n = steps-length inp in
       let past : pastCommit (t .count) (t .phase) ≡ false = past-not (t .count) (t .phase) k e (subst (λ (j : ℕ). k < j) (n ∙ ap commitLength (sym (h .0))) (c .0)) in
-      let a = accepted-step (met s t) (tests-passed c (record-passed t s (c .2) (h .0) (c .1) past)) in (
-        a .0,
-        a .1 ∙ ap (λ (x : Shape). stepPool x (commitNext (met s t)) (view s)) (shape-is inp (c .2)) ∙ sym (view-act sh es (commitNext (met s t)) s),
-        rw m (c .0),
-        ap length m ∙ long (length es) (subst (λ (j : ℕ). k < j) n (c .0)) n,
-      )
+      let a = accepted-step (met s t) (tests-passed c (record-passed t s (c .2) (h .0) (c .1) past)) in
+      record {
+        accepted = a .0;
+        leaves = a .1 ∙ ap (λ (x : Shape). stepPool x (commitNext (met s t)) (view s)) (shape-is inp (c .2)) ∙ sym (view-act sh es (commitNext (met s t)) s);
+        inside = rw m (c .0);
+        count = ap length m ∙ long (length es) (subst (λ (j : ℕ). k < j) n (c .0)) n;
+      }
     where
       past-not : (n : ℕ) (f : Phase) (k : ℕ) → f ≡ committing k → k < commitLength n → pastCommit n f ≡ false
       past-not n f k e l = unfold pastCommit in (rw e (lt-leb (commitLength n) k l))
@@ -269,10 +286,7 @@ module _ (inp : Input) where
       phases neither = inl (unfold startRecovery in refl)
 
   resumes : (r : Recovery) (s : State) (k : ℕ) → Run pool staging ks (resuming r) s → r .phase ≡ recovering k
-      → Accepted (recoveryStep (view s) r .answer)
-      × (recoveryStep (view s) r .pool ≡ view (act sh es (recoveryNext (view s) r) s))
-      × (k < length (recoveryList (view s) r))
-      × (length (recoveryList (view s) r) ≡ 2 * length es + 5)
+      → StepTaken pool staging ks (recoveryStep (view s) r .answer) (recoveryStep (view s) r .pool) s (recoveryNext (view s) r) k (recoveryList (view s) r) (2 * length es + 5)
   resumes r s k u e =
       let c : RecoveryMatches inp (r .work) (recovering k) s = subst (λ (f : Progress). RecoveryMatches inp (r .work) f s) e (run-matches inp u) in
       let x = shape-is inp (c .1) in
@@ -282,7 +296,12 @@ module _ (inp : Input) where
       let b = claim inp .log-kept s (w .0) (length es) k
       (subst (λ (q : Remedy). StepRun sh es pool (atRecovery q k) s) (w .1) (c .1)) in
       let a = accepted-again (view s) r (tests-passed (opens inp (c .1)) x (w .0) (w .1) (rw m (c .0)) b) in
-      (a .0, a .1 ∙ ap (λ (y : Shape). stepPool y (recoveryNext (view s) r) (view s)) x ∙ sym (view-act sh es (recoveryNext (view s) r) s), rw m (c .0), n)
+      record {
+        accepted = a .0;
+        leaves = a .1 ∙ ap (λ (y : Shape). stepPool y (recoveryNext (view s) r) (view s)) x ∙ sym (view-act sh es (recoveryNext (view s) r) s);
+        inside = rw m (c .0);
+        count = n;
+      }
     where
       list-of : shapeIn (view s) ≡ sh → recoveryList (view s) r ≡ recoverySteps sh (view s) (r .work)
       list-of x = unfold recoveryList in (rw x)
@@ -305,70 +324,80 @@ module _ (inp : Input) where
 
   -- ---- the ends are reached
 
-  abbrev Finished : Type 0
-  Finished = (r : Recovery) × (s′ : State) × Run pool staging ks (resuming r) s′ × (r .phase ≡ finished)
+  abbrev Ends : ℕ → Holds → State → Type 0
+  Ends = EndsIn pool staging ks
 
-  abbrev Closed : Type 0
-  Closed = (t : Transaction) × (s : State) × Run pool staging ks (holding t) s × (t .phase ≡ closed)
+  ends-here : {h : Holds} {s : State} → Over h → Ends 0 h s
+  ends-here {h} {s} o = record { holds = h; state = s; way = Uncut.here; over = o }
 
-  recover-on : (m k : ℕ) (r : Recovery) (s : State) → Run pool staging ks (resuming r) s → r .phase ≡ recovering k → k + m ≡ 2 * length es + 5
-      → Finished
-  recover-on zero k r s u e q = let i = resumes r s k u e in absurd (let a = i .2 in let b = i .3 in omega arith)
+  ends-onward : {m : ℕ} {h h′ : Holds} {s s′ : State} → Makes pool staging ks h s h′ s′ → Ends m h′ s′ → Ends (suc m) h s
+  ends-onward f w = record { holds = w .holds; state = w .state; way = Uncut.onward f (w .way); over = w .over }
+
+  recover-on : (m k : ℕ) (r : Recovery) (s : State) → Run pool staging ks (resuming r) s → r .phase ≡ recovering k → k + m ≡ 2 * length es + 5 → Ends m (resuming r) s
+  recover-on zero k r s u e q = let i = resumes r s k u e in absurd (let a = i .inside in let b = i .count in omega arith)
   recover-on (suc m) k r s u e q =
       let i = resumes r s k u e in
       let n : ℕ = length (recoveryList (view s) r) in
       let r₁ : Recovery = recoveryStep (view s) r .recovery in
-      let s₁ : State = act sh es (recoveryNext (view s) r) s in
-      let u₁ : Run pool staging ks (resuming r₁) s₁ = Run.again u (i .0) in
+      let c : Makes pool staging ks (resuming r) s (resuming r₁) (act sh es (recoveryNext (view s) r) s) = Makes.again (i .accepted) in
       let f : r₁ .phase ≡ nextProgress k n =
-      ap (λ (x : Recovery). x .phase) (again-left (view s) r (i .0)) ∙ ap (λ (j : ℕ). nextProgress j n) (done-is (r .phase) k e) in
-      split (eqb (suc k) n) (λ d. (r₁, s₁, u₁, f ∙ progress-end k n d)) (λ d. recover-on m (suc k) r₁ s₁ u₁ (f ∙ progress-on k n d) (omega arith))
+      ap (λ (x : Recovery). x .phase) (again-left (view s) r (i .accepted)) ∙ ap (λ (j : ℕ). nextProgress j n) (done-is (r .phase) k e) in
+      ends-onward c (split (eqb (suc k) n)
+      (λ d. last (let a = eqb-true (suc k) n d in let b = i .count in omega arith) (ends-here (f ∙ progress-end k n d)))
+      (λ d. recover-on m (suc k) r₁ _ (Run.next u c) (f ∙ progress-on k n d) (omega arith)))
+    where
+      last : {h : Holds} {x : State} → 0 ≡ m → Ends 0 h x → Ends m h x
+      last {h} {x} = subst (λ (j : ℕ). Ends j h x)
 
-  recovers : (s : State) → Run pool staging ks cutOff s → Finished
+  recovers : (s : State) → Run pool staging ks cutOff s → Ends 1 cutOff s ⊎ Ends (suc (2 * length es + 5)) cutOff s
   recovers s u = go (i .1)
     where
       i : Accepted (recoveryStart (view s) .answer) × ((recoveryStart (view s) .recovery .phase ≡ finished) ⊎ (recoveryStart (view s) .recovery .phase ≡ recovering 0))
       i = restarts s u
 
-      go : (recoveryStart (view s) .recovery .phase ≡ finished) ⊎ (recoveryStart (view s) .recovery .phase ≡ recovering 0)
-          → Finished
-      go (inl e) = (recoveryStart (view s) .recovery, s, Run.recover u (i .0), e)
-      go (inr e) = recover-on (2 * length es + 5) 0 (recoveryStart (view s) .recovery) s (Run.recover u (i .0)) e (omega arith)
+      c : Makes pool staging ks cutOff s (resuming (recoveryStart (view s) .recovery)) s
+      c = Makes.recover (i .0)
 
-  commit-on : (m k : ℕ) (t : Transaction) (s : State) → Run pool staging ks (holding t) s → t .phase ≡ committing k → k + m ≡ 6 * length es + 9
-      → Closed
-  commit-on zero k t s u e q = let i = steps t s k u e in absurd (let a = i .2 in let b = i .3 in omega arith)
+      go : (recoveryStart (view s) .recovery .phase ≡ finished) ⊎ (recoveryStart (view s) .recovery .phase ≡ recovering 0)
+          → Ends 1 cutOff s ⊎ Ends (suc (2 * length es + 5)) cutOff s
+      go (inl e) = inl (ends-onward c (ends-here e))
+      go (inr e) = inr (ends-onward c (recover-on (2 * length es + 5) 0 (recoveryStart (view s) .recovery) s (Run.next u c) e (omega arith)))
+
+  commit-on : (m k : ℕ) (t : Transaction) (s : State) → Run pool staging ks (holding t) s → t .phase ≡ committing k → k + m ≡ 6 * length es + 9 → Ends m (holding t) s
+  commit-on zero k t s u e q = let i = steps t s k u e in absurd (let a = i .inside in let b = i .count in omega arith)
   commit-on (suc m) k t s u e q =
       let i = steps t s k u e in
       let n : ℕ = length (commitList (met s t)) in
       let t₁ : Transaction = commitStep (met s t) .left .txn in
-      let s₁ : State = act sh es (commitNext (met s t)) s in
-      let u₁ : Run pool staging ks (holding t₁) s₁ = Run.step u (i .0) in
+      let c : Makes pool staging ks (holding t) s (holding t₁) (act sh es (commitNext (met s t)) s) = Makes.step (i .accepted) in
       let f : t₁ .phase ≡ nextPhase k n =
-      ap (λ (x : Transaction). x .phase) (step-left (met s t) (i .0)) ∙ ap (λ (j : ℕ). nextPhase j n) (place-is (t .phase) k e) in
-      split (eqb (suc k) n) (λ d. (t₁, s₁, u₁, f ∙ phase-end k n d)) (λ d. commit-on m (suc k) t₁ s₁ u₁ (f ∙ phase-on k n d) (omega arith))
+      ap (λ (x : Transaction). x .phase) (step-left (met s t) (i .accepted)) ∙ ap (λ (j : ℕ). nextPhase j n) (place-is (t .phase) k e) in
+      ends-onward c (split (eqb (suc k) n)
+      (λ d. last (let a = eqb-true (suc k) n d in let b = i .count in omega arith) (ends-here (f ∙ phase-end k n d)))
+      (λ d. commit-on m (suc k) t₁ _ (Run.next u c) (f ∙ phase-on k n d) (omega arith)))
+    where
+      last : {h : Holds} {x : State} → 0 ≡ m → Ends 0 h x → Ends m h x
+      last {h} {x} = subst (λ (j : ℕ). Ends j h x)
 
-  commits : stagingSize ≤ length staging → Closed
-  commits l = go (made pool staging ks .left .txn .count) refl
+  commits : stagingSize ≤ length staging → Ends (suc (commitLength (length es))) (holding (made pool staging ks .left .txn)) (atFirst pool staging ks)
+  commits l = ends-onward c (go (made pool staging ks .left .txn .count) refl)
     where
       t : Transaction
       t = made pool staging ks .left .txn
 
       s : State
-      s = record { base = pool; pend = []; reached = false }
+      s = atFirst pool staging ks
 
-      f : Accepted (commitStart (met s t) .answer)
-      f = starts t s Run.begin (live-is inp) l
-
-      u : Run pool staging ks (holding (commitStart (met s t) .left .txn)) s
-      u = Run.commit Run.begin f
+      c : Makes pool staging ks (holding t) s (holding (commitStart (met s t) .left .txn)) s
+      c = Makes.commit (starts t s Run.begin (live-is inp) l)
 
       phase : (n : ℕ) → made pool staging ks .left .txn .count ≡ n → commitStart (met s t) .left .txn .phase ≡ startPhase n
-      phase n e = ap (λ (x : Transaction). x .phase) (start-left (met s t) (start-none (met s t) f)) ∙ ap startPhase e
+      phase n e = ap (λ (x : Transaction). x .phase) (start-left (met s t) (start-none (met s t) (starts t s Run.begin (live-is inp) l))) ∙ ap startPhase e
 
-      go : (n : ℕ) → made pool staging ks .left .txn .count ≡ n → Closed
-      go zero e = (commitStart (met s t) .left .txn, s, u, phase 0 e ∙ start-zero)
-      go (suc n) e = commit-on (6 * length es + 9) 0 (commitStart (met s t) .left .txn) s u (phase (suc n) e ∙ start-some n) (omega arith)
+      go : (n : ℕ) → made pool staging ks .left .txn .count ≡ n → Ends (commitLength (length es)) (holding (commitStart (met s t) .left .txn)) s
+      go zero e = subst (λ (j : ℕ). Ends j (holding (commitStart (met s t) .left .txn)) s) (length-none (sym e ∙ count-is inp)) (ends-here (phase 0 e ∙ start-zero))
+      go (suc n) e = subst (λ (j : ℕ). Ends j (holding (commitStart (met s t) .left .txn)) s) (length-some n (sym e ∙ count-is inp))
+          (commit-on (6 * length es + 9) 0 (commitStart (met s t) .left .txn) s (Run.next Run.begin c) (phase (suc n) e ∙ start-some n) (omega arith))
 
 -- THE CLAIM
 pub power-cut : PowerCut

@@ -32,7 +32,7 @@ use Rattle.powercut.specs.Steps.{Remedy, Step, barrier, clear, commitSte
 use Rattle.powercut.specs.Power.{State, act, view}
 use Rattle.powercut.specs.Commit.{commitList, commitNext, commitStart, commitStep, commitTests, isCommitting, nextPhase, placeIn, startPhase}
 use Rattle.powercut.specs.Recovery.{Progress, Recovery, RecoveryAfter, concludeRecovery, doneSteps, finished, isNeither, isRecovering, nextProgress, recovering, recoveryList, recoveryNext, recoveryStart, recoveryStep, recoveryTests, startRecovery}
-use Rattle.powercut.specs.WholeRun.{Accepted, Holds, Run, cutOff, entries, holding, made, meets, resuming}
+use Rattle.powercut.specs.WholeRun.{Accepted, Holds, Makes, Run, cutOff, entries, holding, made, meets, resuming}
 use Rattle.powercut.specs.Claim.{new}
 use Rattle.powercut.proofs.StepRun.{Claim, StepRun, Entries, Clean, Position, atCommit, atCut, atRecovery}
 use Rattle.powercut.proofs.StepCount.{commit-count, replay-count}
@@ -180,7 +180,7 @@ module _ (inp : Input) where
   unfolding entries
   held = subst (λ (p : List ℕ). Held (shapeIn p) p (entriesIn (made pool staging ks .left)) (new pool staging ks)) left-pool (kept .held)
 
-  count-is : made pool staging ks .left .txn .count ≡ length es
+  pub count-is : made pool staging ks .left .txn .count ≡ length es
   unfolding entries entriesIn
   count-is = sym (entries-count held-staging 0 (made pool staging ks .left .txn .count))
 
@@ -204,9 +204,12 @@ module _ (inp : Input) where
 
   -- ---- at every moment the pool opens, with the shape of the start
 
+  pub front-kept : {f : Position} {s : State} → StepRun sh es pool f s → (length (view s) ≡ length pool) × ((i : ℕ) → i < logA sh → getD (view s) i 0 ≡ getD pool i 0)
+  front-kept c = step-run-headers sh good es pool clean entries-good c
+
   pub same-head : {f : Position} {s : State} → StepRun sh es pool f s → SameHeaders (view s) pool
   same-head {f} {s} c =
-      let h = step-run-headers sh good es pool clean entries-good c in
+      let h = front-kept c in
       same-headers (view s) pool (h .0) (let k = sound-long pool sound in let e = h .0 in omega arith) (λ i l. h .1 i (let k = page-is pool sound in omega arith))
 
   pub shape-is : {f : Position} {s : State} → StepRun sh es pool f s → shapeIn (view s) ≡ sh
@@ -383,12 +386,15 @@ module _ (inp : Input) where
           (subst (λ (y : Step). RecoveryMatches q (nextProgress k (length (recoverySteps sh (view s) q))) (act sh es y s)) (sym x)
           (next-recovery-matches q k (length (recoverySteps sh (view s) q)) s′ (recovery-length sh (view s) (view s′) q) (c .0) (StepRun.again (c .1) (c .0))))
 
+  makes-matches : {h h′ : Holds} {s s′ : State} → Makes pool staging ks h s h′ s′ → Matches h s → Matches h′ s′
+  makes-matches (Makes.commit {t} {s} f) m = start-matches t s m f
+  makes-matches (Makes.step {t} {s} f) m = step-matches t s m f
+  makes-matches (Makes.recover {s} f) m = recover-matches s m f
+  makes-matches (Makes.again {r} {s} f) m = again-matches r s m f
+
   -- EVERY RUN IS A RUN BY STEP NUMBERS
   pub run-matches : {h : Holds} {s : State} → Run pool staging ks h s → Matches h s
   run-matches Run.begin = (count-is, subst (λ (f : Phase). CommitMatches f init) (sym (kept .live-is)) refl)
-  run-matches (Run.commit {t} {s} r f) = start-matches t s (run-matches r) f
-  run-matches (Run.step {t} {s} r f) = step-matches t s (run-matches r) f
+  run-matches (Run.next r m) = makes-matches m (run-matches r)
   run-matches (Run.cut {t} {s} {kept} r l) = StepRun.cut (some-step-run (t .phase) s (run-matches r .1) .1) l
-  run-matches (Run.recover {s} r f) = recover-matches s (run-matches r) f
-  run-matches (Run.again {r = q} {s} r f) = again-matches q s (run-matches r) f
   run-matches (Run.cut-again {r = q} {s} {kept} r l) = StepRun.cut-again (some-recovery (q .work) (q .phase) s (run-matches r) .1) l

@@ -7,12 +7,13 @@ use mathlib.Core.List.{List, [], Sublistᴰ}
 use Prim.Native.Nat.{ℕ, suc, _+_, _*_, _^_, _≤_, _<_}
 use lib.ListN.{length, getD}
 use Rattle.rules.specs.Words.{Bytes, word}
-use Rattle.rules.specs.Shape.{Shape, entryLimit, logA, logB, poolSize, row, zonesAt}
-use Rattle.rules.specs.Staging.{Store, goodTargets, lay}
+use Rattle.rules.specs.Shape.{Shape, entryLimit, logA, logB, poolSize}
+use Rattle.rules.specs.Staging.{Store, goodTargets}
 use Rattle.rules.specs.Parity.{Parity}
 use Rattle.powercut.specs.Log.{Log, countIn, logAt, valid}
 use Rattle.powercut.specs.Steps.{Remedy, barrier, commitSteps, neither, nothing, recoverySteps, remedy, replay}
 use Rattle.powercut.specs.Power.{State, act, keep, view}
+use Rattle.powercut.specs.Claim.{SameData, stagedOrOld}
 
 -- so many steps of the commit, or of a recovery, are made; or the power is off
 pub data Position : Type 0 where
@@ -47,19 +48,11 @@ module _ (sh : Shape) where
     pub good : goodTargets sh es ≡ true
     pub vals : (i : ℕ) → getD es i (record { at = 0; val = 0 }) .val < 2 ^ 64
 
-  -- p is q in the data rows
-  abbrev pub SameData : List ℕ → List ℕ → Type 0
-  SameData p q = (i : ℕ) → zonesAt sh ≤ i → i < poolSize sh → row sh i < sh .rows → getD p i 0 ≡ getD q i 0
-
-  abbrev pub old-or-new : Bool → List ℕ → List Store → List ℕ
-  old-or-new true p es = lay p es
-  old-or-new false p es = p
-
   -- at an end nothing hangs on a later cut, the pool is clean, and its data rows are all old or all new
   pub record Ended (p₀ : List ℕ) (es : List Store) (s : State) (new : Bool) : Type 0 where
     pub behind : s .pend ≡ []
     pub clean : Clean (view s)
-    pub same : SameData (view s) (old-or-new new p₀ es)
+    pub same : SameData sh (view s) (stagedOrOld new p₀ es)
 
   pub record Claim (p₀ : List ℕ) (es : List Store) : Type 0 where
     pub uncut : (s : State) → StepRun sh es p₀ (atCommit (length (commitSteps sh es))) s → Ended p₀ es s true

@@ -16,7 +16,8 @@ use Rattle.rules.proofs.Stores.{Covered, bytes-lay}
 use Rattle.powercut.specs.Log.{Log}
 use Rattle.powercut.specs.Steps.{Remedy, clear, commitSteps, neither, nothing, recoverySteps, remedy, replay}
 use Rattle.powercut.specs.Power.{State, keep, view}
-use Rattle.powercut.proofs.StepRun.{Claim, StepRun, Ended, Entries, Clean, SameData, Position, again, atCommit, atCut, atRecovery, begin, cut, cut-again, old-or-new, recover, step}
+use Rattle.powercut.specs.Claim.{SameData, stagedOrOld}
+use Rattle.powercut.proofs.StepRun.{Claim, StepRun, Ended, Entries, Clean, Position, again, atCommit, atCut, atRecovery, begin, cut, cut-again, recover, step}
 use Rattle.powercut.proofs.FinalPool.{ParityW, Setting, final-first, final-parity, finalPool, par-cong, pars-row, targets-all, targets-distinct}
 use Rattle.powercut.proofs.Logs.{even-at, remedy-nothing}
 use Rattle.powercut.proofs.Redo.{Outside, CleanAt, even-A, even-B, in-A, in-B, new, pars}
@@ -31,12 +32,12 @@ module _ (sh : Shape) (es : List Store) (p₀ : List ℕ) (c : Setting sh es p�
   new-right true = final-parity sh es p₀ c
   new-right false = c .right
 
-  laid-bytes : (r : Bool) → Bytes (old-or-new sh r p₀ es)
+  laid-bytes : (r : Bool) → Bytes (stagedOrOld r p₀ es)
   laid-bytes true = bytes-lay p₀ es (c .bytes)
   laid-bytes false = c .bytes
 
   -- but for parity places, the new pool is the old one with the entries laid in
-  laid : (r : Bool) (a : ℕ) → a % 8 ≡ 0 → a + 8 ≤ poolSize sh → (Covered a (pars sh es p₀) → ⊥) → word (new sh es p₀ r) a ≡ word (old-or-new sh r p₀ es) a
+  laid : (r : Bool) (a : ℕ) → a % 8 ≡ 0 → a + 8 ≤ poolSize sh → (Covered a (pars sh es p₀) → ⊥) → word (new sh es p₀ r) a ≡ word (stagedOrOld r p₀ es) a
   laid true a ha hn h = pick (final-first sh es p₀ c a ha hn) where
     pick : Covered a (pars sh es p₀) ⊎ (word (finalPool sh p₀ es) a ≡ word (lay p₀ es) a) → word (finalPool sh p₀ es) a ≡ word (lay p₀ es) a
     pick (inl k) = absurd (h k)
@@ -64,13 +65,13 @@ module _ (sh : Shape) (es : List Store) (p₀ : List ℕ) (c : Setting sh es p�
 
     -- a byte whose word is outside the logs and no parity place
     byte-same : (i : ℕ) → i / 8 * 8 + 8 ≤ poolSize sh → Outside sh (i / 8 * 8) → (Covered (i / 8 * 8) (pars sh es p₀) → ⊥)
-        → getD p i 0 ≡ getD (old-or-new sh r p₀ es) i 0
+        → getD p i 0 ≡ getD (stagedOrOld r p₀ es) i 0
     byte-same i hn o h =
         let a = i / 8 * 8 in
         let e : a % 8 ≡ 0 = omega arith in
-        byte-at p (old-or-new sh r p₀ es) i (q .bytes) (laid-bytes r) (q .every a e hn .out o ∙ laid r a e hn h)
+        byte-at p (stagedOrOld r p₀ es) i (q .bytes) (laid-bytes r) (q .every a e hn .out o ∙ laid r a e hn h)
 
-    same-of : SameData sh p (old-or-new sh r p₀ es)
+    same-of : SameData sh p (stagedOrOld r p₀ es)
     same-of i l h k =
         byte-same i (fits sh (c .good) (i / 8 * 8) (d .inside .even) (d .inside .high)) (inr (d .inside .low)) (λ x. pars-row sh (c .good) (i / 8 * 8) (lay p₀ es) es x d)
       where
@@ -84,7 +85,7 @@ module _ (sh : Shape) (es : List Store) (p₀ : List ℕ) (c : Setting sh es p�
   ended s r e q = record {
     behind = e;
     clean = subst (Clean sh) (sym (ap (lay (s .base)) e)) (clean-of (s .base) r q);
-    same = subst (λ (p : List ℕ). SameData sh p (old-or-new sh r p₀ es)) (sym (ap (lay (s .base)) e)) (same-of (s .base) r q);
+    same = subst (λ (p : List ℕ). SameData sh p (stagedOrOld r p₀ es)) (sym (ap (lay (s .base)) e)) (same-of (s .base) r q);
   }
 
 -- ---- no entries: no step changes anything
@@ -124,10 +125,10 @@ module _ (sh : Shape) (p₀ : List ℕ) (q : Clean sh p₀) where
   unchanged-ended s r h = record {
     behind = h .1;
     clean = subst (Clean sh) (sym (unchanged-view s h)) q;
-    same = subst (λ (p : List ℕ). SameData sh p (old-or-new sh r p₀ [])) (sym (unchanged-view s h)) (same r);
+    same = subst (λ (p : List ℕ). SameData sh p (stagedOrOld r p₀ [])) (sym (unchanged-view s h)) (same r);
   }
     where
-      same : (r : Bool) → SameData sh p₀ (old-or-new sh r p₀ [])
+      same : (r : Bool) → SameData sh p₀ (stagedOrOld r p₀ [])
       same true = λ i l h k. refl
       same false = λ i l h k. refl
 

@@ -21,7 +21,7 @@ use Rattle.rules.proofs.Transaction.{calls-pool}
 use Rattle.powercut.specs.Steps.{Step, barrier, parity, store}
 use Rattle.powercut.specs.Power.{State, act, view}
 use Rattle.powercut.specs.Commit.{commitList, commitNext, commitStart, commitStep, madeAnswer, nextPhase, placeIn, startAnswer, startPhase, stepAnswer}
-use Rattle.powercut.specs.WholeRun.{Accepted, Run, entries, holding, made, meets}
+use Rattle.powercut.specs.WholeRun.{Accepted, Makes, Run, atFirst, entries, holding, made, meets}
 use Rattle.powercut.specs.Claim.{new}
 use Rattle.powercut.proofs.RunMatches.{Input, accepted-none, few, live-is, place-is, start-left, start-none, step-left}
 use Rattle.powercut.proofs.PowerCut.{phase-end, phase-on, power-cut}
@@ -112,11 +112,11 @@ module _ (pool staging : List ℕ) (ks : List Call) (sound : Sound pool) (typed 
       let n : ℕ = length (commitList g) in
       let y : After = commitStep g in
       let s₁ : State = act (shapeIn pool) (entries pool staging ks) (commitNext g) s in
-      let a : Along y = record { s = s₁; run = Run.step r (i .0); met = given-is (y .left) (view s₁) (g .staging) (i .1) (step-staging g (i .0)) } in
+      let a : Along y = record { s = s₁; run = Run.next r (Makes.step (i .accepted)); met = given-is (y .left) (view s₁) (g .staging) (i .leaves) (step-staging g (i .accepted)) } in
       let j : placeIn (t .phase) ≡ k = place-is (t .phase) k e in
-      let f : y .left .txn .phase ≡ nextPhase k n = ap (λ (x : Transaction). x .phase) (step-left g (i .0)) ∙ ap (λ (j : ℕ). nextPhase j n) j in
-      let q : y .answer ≡ stepAnswer k n (commitNext g) = step-answer g (i .0) ∙ ap (λ (j : ℕ). stepAnswer j n (commitNext g)) j in
-      let l : k < size = let u = i .2 in let v = i .3 in omega arith in (
+      let f : y .left .txn .phase ≡ nextPhase k n = ap (λ (x : Transaction). x .phase) (step-left g (i .accepted)) ∙ ap (λ (j : ℕ). nextPhase j n) j in
+      let q : y .answer ≡ stepAnswer k n (commitNext g) = step-answer g (i .accepted) ∙ ap (λ (j : ℕ). stepAnswer j n (commitNext g)) j in
+      let l : k < size = let u = i .inside in let v = i .count in omega arith in (
         l,
         split (eqb (suc k) n)
             (λ d. inl (record { along = a; phase = f ∙ phase-end k n d; last = (n, q ∙ answer-last k n (commitNext g) d) }))
@@ -143,7 +143,7 @@ module _ (pool staging : List ℕ) (ks : List Call) (sound : Sound pool) (typed 
   t₀ = made pool staging ks .left .txn
 
   abbrev s₀ : State
-  s₀ = record { base = pool; pend = []; reached = false }
+  s₀ = atFirst pool staging ks
 
   abbrev g₀ : Given
   g₀ = meets pool staging ks s₀ t₀
@@ -158,7 +158,7 @@ module _ (pool staging : List ℕ) (ks : List Call) (sound : Sound pool) (typed 
   few-steps = let f = few input in omega arith
 
   along-start : Accepted (commitStart g₀ .answer) → Along (commitStart g₀)
-  along-start f = record { s = s₀; run = Run.commit Run.begin f; met = start-given g₀ f }
+  along-start f = record { s = s₀; run = Run.next Run.begin (Makes.commit f); met = start-given g₀ f }
 
   phase-start : Accepted (commitStart g₀ .answer) → (n : ℕ) → t₀ .count ≡ n → commitStart g₀ .left .txn .phase ≡ startPhase n
   phase-start f n e = ap (λ (x : Transaction). x .phase) (start-left g₀ (start-none g₀ f)) ∙ ap startPhase e

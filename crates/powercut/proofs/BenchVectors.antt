@@ -23,7 +23,7 @@ use Rattle.powercut.specs.Log.{checkIn, countIn, fromA, fromB, logEntrie
 use Rattle.powercut.specs.Steps.{Step, barrier, clear, commitSteps, logStores, neither, nothing, parity, recoverySteps, redo, remedy, replay, stepPool, stepsMade, store}
 use Rattle.powercut.specs.Power.{State, act, isSeal, keep, view}
 use Rattle.powercut.specs.Commit.{commitList, commitNext, commitStart, commitStep, commitTests, isCommitting, madeAnswer, nextPhase, placeIn, startAnswer, startPhase, stepAnswer}
-use Rattle.powercut.specs.Recovery.{Recovery, concludeRecovery, countAbove, doneSteps, finished, impossibleRecovery, isNeither, isRecovering, logLost, nextProgress, recovering, recoveryList, recoveryNext, recoveryStart, recoveryStep, recoveryTests, startRecovery}
+use Rattle.powercut.specs.Recovery.{Recovery, concludeRecovery, countAbove, doneSteps, finished, impossibleRecovery, isRecovering, logLost, nextProgress, recovering, recoveryList, recoveryNext, recoveryStart, recoveryStep, recoveryTests, startRecovery}
 
 abbrev tiny : Shape
 tiny = record { page = 16; rows = 2; cols = 1; zones = 1 }
@@ -243,17 +243,13 @@ pub starts : (startPhase 0 ≡ closed) × (startAnswer 0 ≡ done 0) × (startPh
 unfolding startPhase startAnswer
 starts = (refl, refl, refl, refl)
 
--- Refusal 22 is for neither log valid and no seal zero.
-pub remedies-refused : (isNeither neither ≡ true) × (isNeither clear ≡ false) × (isNeither nothing ≡ false) × (isNeither (replay fromA 1) ≡ false)
-unfolding isNeither
-remedies-refused = (refl, refl, refl, refl)
-
--- So is a recovery without steps; another one holds what it does, no step made.
+-- So is a recovery without steps; another one holds what it does, no step made. Neither log valid and no seal zero is refusal 22.
 pub recovery-begins : (startRecovery pool (replay fromB 1) ≡ record { answer = started; pool = pool; recovery = record { work = replay fromB 1; phase = recovering 0 } })
     × (startRecovery pool clear ≡ record { answer = started; pool = pool; recovery = record { work = clear; phase = recovering 0 } })
     × (startRecovery pool nothing ≡ record { answer = done 0; pool = pool; recovery = record { work = nothing; phase = finished } })
+    × (startRecovery pool neither ≡ record { answer = refused 22; pool = pool; recovery = record { work = neither; phase = finished } })
 unfolding startRecovery
-recovery-begins = (refl, refl, refl)
+recovery-begins = (refl, refl, refl, refl)
 
 -- ---- Refusal 10 of a recovery record.
 
@@ -309,7 +305,7 @@ commit-steps = (refl, refl, refl, refl, refl)
 
 -- 22 where neither log is valid and no seal is zero.
 pub recovery-starts : (recoveryStart (sealed 0 seal) .answer ≡ started) × (recoveryStart (sealed 5 5) .answer ≡ refused 22)
-unfolding recoveryStart concludeRecovery startRecovery isNeither remedy valid logEntries markIn countIn checkIn first number digits field word put check low high reduced poolSize row zoneCells same within inRange headerFront headerBytes pageAt headerShape headerId headerOk validHeader shapeIn differing openTests headBytes freeHead freshZone freshZones freshPool
+unfolding recoveryStart concludeRecovery startRecovery remedy valid logEntries markIn countIn checkIn first number digits field word put check low high reduced poolSize row zoneCells same within inRange headerFront headerBytes pageAt headerShape headerId headerOk validHeader shapeIn differing openTests headBytes freeHead freshZone freshZones freshPool
 recovery-starts = (refl, refl)
 
 -- 10 its log lost, with the record as given; 29 not recovering.

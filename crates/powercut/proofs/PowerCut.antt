@@ -29,13 +29,13 @@ use Rattle.powercut.specs.Log.{Log, countIn, logAt, valid}
 use Rattle.powercut.specs.Steps.{Remedy, Step, barrier, clear, commitSteps, neither, nothing, parity, recoverySteps, remedy, replay, stepPool, stepsMade, store}
 use Rattle.powercut.specs.Power.{State, act, view}
 use Rattle.powercut.specs.Commit.{commitList, commitNext, commitStart, commitStep, commitTests, isCommitting, nextPhase, placeIn, startAnswer, startPhase, stepAnswer, madeAnswer}
-use Rattle.powercut.specs.Recovery.{Progress, Recovery, concludeRecovery, countAbove, doneSteps, finished, impossibleRecovery, isNeither, isRecovering, logLost, nextProgress, recovering, recoveryList, recoveryNext, recoveryStart, recoveryStep, recoveryTests, startRecovery}
+use Rattle.powercut.specs.Recovery.{Progress, Recovery, concludeRecovery, countAbove, doneSteps, finished, impossibleRecovery, isRecovering, logLost, nextProgress, recovering, recoveryList, recoveryNext, recoveryStart, recoveryStep, recoveryTests, startRecovery}
 use Rattle.powercut.specs.WholeRun.{Accepted, Holds, Makes, Run, Uncut, atFirst, cutOff, entries, holding, made, meets, resuming}
 use Rattle.powercut.specs.Claim.{End, EndsIn, Over, PowerCut, StepTaken, new, oldOrNew, stagedOrOld}
 use Rattle.powercut.proofs.StepRun.{StepRun, Ended, Position, atCommit, atRecovery}
 use Rattle.powercut.proofs.StepCount.{replay-count}
 use Rattle.powercut.proofs.StepPool.{uncut-view, view-act}
-use Rattle.powercut.proofs.RunMatches.{CommitMatches, Input, RecoveryMatches, again-left, claim, count-is, done-is, entries-met, few, front-kept, held, left-staging, list-met, live-is, opens, place-is, recoveryStartTests, clean, run-matches, same-head, shape-is, some-step-run, start-left, start-none, step-left, steps-length, targets}
+use Rattle.powercut.proofs.RunMatches.{CommitMatches, Input, RecoveryMatches, again-left, claim, count-is, done-is, entries-met, few, front-kept, held, left-staging, list-met, live-is, opens, place-is, clean, run-matches, same-head, shape-is, some-step-run, start-left, start-none, step-left, steps-length, targets}
 use Rattle.rules.proofs.Bool.{split}
 use Rattle.rules.proofs.Transaction.{calls-short}
 
@@ -65,19 +65,19 @@ accepted-step g p =
     let e = passed-first (commitTests g) p in
     (rw e (answer-not-refused (placeIn (g .txn .phase)) (length (commitList g)) (commitNext g)), rw e)
 
-pub recovery-not-refused : (p : List ℕ) (q : Remedy) → isRefused (startRecovery p q .answer) ≡ false
+recovery-not-refused : (p : List ℕ) (q : Remedy) → q ≢ neither → isRefused (startRecovery p q .answer) ≡ false
 unfolding startRecovery isRefused
-recovery-not-refused p (replay l n) = refl
-recovery-not-refused p clear = refl
-recovery-not-refused p nothing = refl
-recovery-not-refused p neither = refl
+recovery-not-refused p (replay l n) h = refl
+recovery-not-refused p clear h = refl
+recovery-not-refused p nothing h = refl
+recovery-not-refused p neither h = absurd (h refl)
 
-accepted-recovery : (p : List ℕ) → Passed (openTests p) → isNeither (remedy (shapeIn p) p) ≡ false
+accepted-recovery : (p : List ℕ) → Passed (openTests p) → remedy (shapeIn p) p ≢ neither
     → Accepted (recoveryStart p .answer) × (recoveryStart p .recovery ≡ startRecovery p (remedy (shapeIn p) p) .recovery)
 unfolding recoveryStart concludeRecovery
-accepted-recovery p o e =
-    let t : first (recoveryStartTests p) ≡ none = passed-first _ (passed-join (openTests p) (when (isNeither (remedy (shapeIn p) p)) 22 ∷ []) o (e, tt)) in
-    (rw t (recovery-not-refused p (remedy (shapeIn p) p)), rw t)
+accepted-recovery p o h =
+    let t : first (openTests p) ≡ none = passed-first (openTests p) o in
+    (rw t (recovery-not-refused p (remedy (shapeIn p) p) h), rw t)
 
 accepted-again : (p : List ℕ) (r : Recovery) → Passed (recoveryTests p r) → Accepted (recoveryStep p r .answer) × (recoveryStep p r .pool ≡ stepPool (shapeIn p) (recoveryNext p r) p)
 unfolding recoveryStep concludeRecovery
@@ -269,16 +269,9 @@ module _ (inp : Input) where
       → Accepted (recoveryStart (view s) .answer) × ((recoveryStart (view s) .recovery .phase ≡ finished) ⊎ (recoveryStart (view s) .recovery .phase ≡ recovering 0))
   restarts s r =
       let c = run-matches inp r in
-      let a = accepted-recovery (view s) (opens inp c) (not-neither (remedy (shapeIn (view s)) (view s)) (λ e. claim inp .never-refused s c
-      (ap (λ (x : Shape). remedy x (view s)) (sym (shape-is inp c)) ∙ e))) in
+      let a = accepted-recovery (view s) (opens inp c) (λ e. claim inp .never-refused s c (ap (λ (x : Shape). remedy x (view s)) (sym (shape-is inp c)) ∙ e)) in
       (a .0, subst (λ (x : Recovery). (x .phase ≡ finished) ⊎ (x .phase ≡ recovering 0)) (sym (a .1)) (phases (remedy (shapeIn (view s)) (view s))))
     where
-      not-neither : (q : Remedy) → q ≢ neither → isNeither q ≡ false
-      not-neither (replay l n) h = unfold isNeither in refl
-      not-neither clear h = unfold isNeither in refl
-      not-neither nothing h = unfold isNeither in refl
-      not-neither neither h = absurd (h refl)
-
       phases : (q : Remedy) → (startRecovery (view s) q .recovery .phase ≡ finished) ⊎ (startRecovery (view s) q .recovery .phase ≡ recovering 0)
       phases (replay l n) = inr (unfold startRecovery in refl)
       phases clear = inr (unfold startRecovery in refl)

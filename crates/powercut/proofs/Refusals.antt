@@ -5,11 +5,14 @@ use mathlib.Core.Bool.{true, false}
 use mathlib.Core.Option.{Option, none, some}
 use mathlib.Core.List.{List}
 use native.Mathlib.Omega.{arith}
+use Rattle.rules.specs.Test.{first}
+use Rattle.rules.specs.Header.{openTests, shapeIn}
 use Rattle.rules.specs.Answer.{Given, isRefused}
 use Rattle.rules.proofs.Transaction.{conclude-refused}
+use Rattle.powercut.specs.Steps.{Remedy, clear, neither, nothing, remedy, replay}
 use Rattle.powercut.specs.Commit.{commitStart, commitStep}
-use Rattle.powercut.specs.Recovery.{Recovery, RecoveryAfter, concludeRecovery, recoveryStart, recoveryStep}
-use Rattle.powercut.proofs.PowerCut.{answer-not-refused, recovery-not-refused, start-not-refused}
+use Rattle.powercut.specs.Recovery.{Recovery, RecoveryAfter, concludeRecovery, idle, recoveryStart, recoveryStep, startRecovery}
+use Rattle.powercut.proofs.PowerCut.{answer-not-refused, start-not-refused}
 
 pub start-refused : (g : Given) → isRefused (commitStart g .answer) ≡ true → commitStart g .left ≡ g
 unfolding commitStart
@@ -25,9 +28,21 @@ unfolding concludeRecovery isRefused
 recovery-kept p r none a f e = absurd (let z : _≡_ {A = ℕ} 0 1 = cc in omega arith)
 recovery-kept p r (some n) a f e = (refl, refl)
 
-pub recovery-start-refused : (p : List ℕ) → isRefused (recoveryStart p .answer) ≡ true → recoveryStart p .pool ≡ p
-unfolding recoveryStart
-recovery-start-refused p e = recovery-kept p _ _ _ (recovery-not-refused p _) e .0
+begun-pool : (p : List ℕ) (q : Remedy) → startRecovery p q .pool ≡ p
+unfolding startRecovery
+begun-pool p (replay l n) = refl
+begun-pool p clear = refl
+begun-pool p nothing = refl
+begun-pool p neither = refl
+
+-- a start makes no store, refused or not
+pub recovery-start-pool : (p : List ℕ) → recoveryStart p .pool ≡ p
+unfolding recoveryStart concludeRecovery
+recovery-start-pool p = go (first (openTests p))
+  where
+    go : (o : Option ℕ) → concludeRecovery p idle o (startRecovery p (remedy (shapeIn p) p)) .pool ≡ p
+    go none = begun-pool p (remedy (shapeIn p) p)
+    go (some n) = refl
 
 pub recovery-step-refused : (p : List ℕ) (r : Recovery) → isRefused (recoveryStep p r .answer) ≡ true → (recoveryStep p r .pool ≡ p) × (recoveryStep p r .recovery ≡ r)
 unfolding recoveryStep

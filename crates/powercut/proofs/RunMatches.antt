@@ -31,17 +31,13 @@ use Rattle.rules.proofs.Sound.{begun-kept, sound-fits}
 use Rattle.powercut.specs.Steps.{Remedy, Step, barrier, clear, commitSteps, neither, nothing, recoverySteps, remedy, replay}
 use Rattle.powercut.specs.Power.{State, act, view}
 use Rattle.powercut.specs.Commit.{commitList, commitNext, commitStart, commitStep, commitTests, isCommitting, nextPhase, placeIn, startPhase}
-use Rattle.powercut.specs.Recovery.{Progress, Recovery, RecoveryAfter, concludeRecovery, doneSteps, finished, isNeither, isRecovering, nextProgress, recovering, recoveryList, recoveryNext, recoveryStart, recoveryStep, recoveryTests, startRecovery}
+use Rattle.powercut.specs.Recovery.{Progress, Recovery, RecoveryAfter, concludeRecovery, doneSteps, finished, isRecovering, nextProgress, recovering, recoveryList, recoveryNext, recoveryStart, recoveryStep, recoveryTests, startRecovery}
 use Rattle.powercut.specs.WholeRun.{Accepted, Holds, Makes, Run, cutOff, entries, holding, made, meets, resuming}
 use Rattle.powercut.specs.Claim.{new}
 use Rattle.powercut.proofs.StepRun.{Claim, StepRun, Entries, Clean, Position, atCommit, atCut, atRecovery}
 use Rattle.powercut.proofs.StepCount.{commit-count, replay-count}
 use Rattle.powercut.proofs.StepRunClaim.{step-run-claim}
 use Rattle.powercut.proofs.Headers.{step-run-headers}
-
--- what the start of a recovery meets
-abbrev pub recoveryStartTests : List ℕ → List Test
-recoveryStartTests p = openTests p ++ (when (isNeither (remedy (shapeIn p) p)) 22 ∷ [])
 
 -- ---- what an answer that is no refusal tells
 
@@ -63,7 +59,7 @@ step-none : (g : Given) → Accepted (commitStep g .answer) → first (commitTes
 unfolding commitStep
 step-none g f = accepted-none g _ _ f
 
-recover-none : (p : List ℕ) → Accepted (recoveryStart p .answer) → first (recoveryStartTests p) ≡ none
+recover-none : (p : List ℕ) → Accepted (recoveryStart p .answer) → first (openTests p) ≡ none
 unfolding recoveryStart
 recover-none p f = accepted-recovery-none p _ _ _ f
 
@@ -336,7 +332,7 @@ module _ (inp : Input) where
       p : List ℕ
       p = view s
 
-      none-is : first (recoveryStartTests p) ≡ none
+      none-is : first (openTests p) ≡ none
       none-is = recover-none p f
 
       left : recoveryStart (view s) .recovery ≡ startRecovery (view s) (remedy sh (view s)) .recovery

@@ -34,24 +34,19 @@ concludeRecovery p r (some n) after = record { answer = refused n; pool = p; rec
 
 -- ---- The start.
 
-unfoldable pub isNeither : Remedy → Bool
-isNeither (replay l n) = false
-isNeither clear = false
-isNeither nothing = false
-isNeither neither = true
+-- A refused start hands back a record that can do nothing, since it was given none.
+abbrev pub idle : Recovery
+idle = record { work = neither; phase = finished }
 
--- A recovery without steps says done at its start.
+-- A recovery without steps says done at its start. 22 both seals non-zero, neither log valid.
 unfoldable pub startRecovery : List ℕ → Remedy → RecoveryAfter
 startRecovery p (replay l n) = record { answer = started; pool = p; recovery = record { work = replay l n; phase = recovering 0 } }
 startRecovery p clear = record { answer = started; pool = p; recovery = record { work = clear; phase = recovering 0 } }
 startRecovery p nothing = record { answer = done 0; pool = p; recovery = record { work = nothing; phase = finished } }
-startRecovery p neither = record { answer = done 0; pool = p; recovery = record { work = neither; phase = finished } }
+startRecovery p neither = record { answer = refused 22; pool = p; recovery = idle }
 
--- 22 both seals non-zero, neither log valid.
 unfoldable pub recoveryStart : List ℕ → RecoveryAfter
-recoveryStart p =
-    concludeRecovery p (record { work = neither; phase = finished }) (first (openTests p ++ (when (isNeither (remedy (shapeIn p) p)) 22 ∷ [])))
-    (startRecovery p (remedy (shapeIn p) p))
+recoveryStart p = concludeRecovery p idle (first (openTests p)) (startRecovery p (remedy (shapeIn p) p))
 
 -- ---- A step.
 

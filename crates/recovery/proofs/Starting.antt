@@ -2,14 +2,13 @@
 use Prim.Native.Nat.{ℕ}
 use mathlib.Core.Path.{_≡_, refl}
 use mathlib.Core.Bool.{Bool, true, false}
-use mathlib.Core.List.{List, [], _∷_}
+use mathlib.Core.List.{List}
 use borrow.Author.Tests.{eq-eqb, ne-eqb}
-use Rattle.rules.specs.Test.{first, when}
 use Rattle.rules.specs.Header.{openTests, shapeIn}
-use Rattle.rules.proofs.Test.{first-left, first-right}
+use Rattle.rules.proofs.Test.{passed-first}
 use Rattle.powercut.specs.Log.{countIn, valid}
-use Rattle.powercut.specs.Steps.{neither, remedy}
-use Rattle.powercut.specs.Recovery.{concludeRecovery, finished, isNeither, recoveryStart, startRecovery}
+use Rattle.powercut.specs.Steps.{remedy}
+use Rattle.powercut.specs.Recovery.{concludeRecovery, recoveryStart, startRecovery}
 use Rattle.words.specs.Loaded.{Loaded}
 use Rattle.layout.specs.declared.Shape.{Shape}
 use Rattle.layout.specs.declared.Opened.the-variants as Opening
@@ -23,8 +22,6 @@ use Rattle.recovery.specs.declared.Progress.the-variants.{Finished}
 use Rattle.recovery.specs.declared.Reply.{Reply}
 use Rattle.recovery.specs.Reading.{afterOf, workOf}
 use Rattle.recovery.specs.Advanced.{begun}
-
--- ---- a pool that opens has its shape, and room for both logs
 
 -- ---- what is to be done
 
@@ -57,9 +54,8 @@ module _ (s : Shape) (p : List ℕ) (a b : ℕ) (la : Loaded 8 p 512 a) (lb : Lo
 
 -- ---- the reply
 
-begun-start : (p : List ℕ) (w : Work)
-    → afterOf (begun w) p ≡ concludeRecovery p (record { work = neither; phase = finished }) (first (when (isNeither (workOf w)) 22 ∷ [])) (startRecovery p (workOf w))
-unfolding concludeRecovery isNeither startRecovery first
+begun-start : (p : List ℕ) (w : Work) → afterOf (begun w) p ≡ startRecovery p (workOf w)
+unfolding startRecovery
 begun-start p (ReplayA n) = refl
 begun-start p (ReplayB n) = refl
 begun-start p Clear = refl
@@ -69,9 +65,8 @@ begun-start p Neither = refl
 module _ (p : List ℕ) where
   pub start-refused : (n : ℕ) → opened p ≡ Opening.Refused n → afterOf (record { answer = Refused n; recovery = record { work = Neither; phase = Finished } }) p ≡ recoveryStart p
   unfolding recoveryStart concludeRecovery
-  start-refused n e = rw (first-left (openTests p) (when (isNeither (remedy (shapeIn p) p)) 22 ∷ []) n (open-refused p n e))
+  start-refused n e = rw (open-refused p n e)
 
   pub start-begun : (s : Shape) (w : Work) (r : Reply) → opened p ≡ Opening.Good s → workOf w ≡ remedy (shapeOf s) p → r ≡ begun w → afterOf r p ≡ recoveryStart p
-  unfolding recoveryStart
-  start-begun s w r e f g =
-      rw (first-right (openTests p) (when (isNeither (remedy (shapeIn p) p)) 22 ∷ []) (open-passed p s e), ← (open-good p s e .2), ← f, g) (begun-start p w)
+  unfolding recoveryStart concludeRecovery
+  start-begun s w r e f g = rw (passed-first (openTests p) (open-passed p s e), ← (open-good p s e .2), ← f, g) (begun-start p w)

@@ -10,9 +10,8 @@ use Rattle.rules.specs.Shape.{Shape, bodyLimit, cellSize, entryLimit, stagingSi
 use Rattle.rules.specs.Test.{Test, first, when}
 use Rattle.rules.specs.Header.{within}
 use Rattle.rules.specs.Runs.{cellsFor, objectBytes}
-use Rattle.rules.specs.Staging.{Store, touchWords}
+use Rattle.rules.specs.Staging.{Store, Tidy, touchWords}
 use Rattle.rules.specs.Plan.{fitTest, fitted, search, touchFree}
-use Rattle.rules.proofs.Staging.{Tidy}
 use Rattle.stage.specs.View.{entriesOf}
 use Rattle.zones.specs.declared.Found.{Found}
 use Rattle.zones.specs.declared.Found.the-variants.{At, Refused}

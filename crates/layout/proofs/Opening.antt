@@ -14,7 +14,7 @@ use Rattle.rules.specs.Header.{differing, headerOk, headerShape, inRange, openT
 use Rattle.rules.proofs.Bool.{split}
 use Rattle.rules.proofs.Shape.{Good as GoodShape}
 use Rattle.rules.proofs.Test.{Passed, first-passed, not-not, passed-first}
-use Rattle.rules.proofs.Header.{header-range, same-eq}
+use Rattle.rules.proofs.Header.{passed-range, same-eq}
 use Rattle.layout.specs.declared.Shape.{Shape}
 use Rattle.layout.specs.declared.Opened.{Opened}
 use Rattle.layout.specs.declared.Opened.the-variants.{Good, Refused}
@@ -84,13 +84,6 @@ pub answer-refused : (o : Option ℕ) (sh : PoolShape) (n : ℕ) → answer o sh
 unfolding answer
 answer-refused none sh n e = absurd (let z : _≡_ {A = ℕ} 0 1 = cc in omega arith)
 answer-refused (some m) sh n e = cc
-
--- where all tests are passed, the shape that counts is a valid header's
-passed-range : (p : List ℕ) → Passed (openTests p) → inRange (shapeIn p) ≡ true
-unfolding openTests shapeIn validHeader
-passed-range p o =
-    split (headerOk (pageAt p 0)) (λ e. rw e (header-range (pageAt p 0) e))
-    (λ e. rw e (header-range (pageAt p 256) (not-not (headerOk (pageAt p 256)) (rw e at (o .1 .0)))))
 
 passed-length : (p : List ℕ) → Passed (openTests p) → length p ≡ poolSize (shapeIn p)
 unfolding openTests

@@ -8,10 +8,10 @@ use native.Mathlib.Omega.{arith}
 use lib.ListN.{length, take, drop, set, length-set, take-append-drop}
 use lib.Seq.{sets, drop-drop, drop-set-add, length-take-le, set-out, take-take}
 use Rattle.rules.specs.Words.{digits, field, put, word}
-use Rattle.rules.specs.Staging.{Store, touch, touchRange, touchWords, wordCount, wordFrom}
+use Rattle.rules.specs.Staging.{Store, Tidy, touch, touchRange, touchWords, wordCount, wordFrom}
 use Rattle.rules.proofs.Words.{field-part, length-digits}
 use Rattle.rules.proofs.Sets.{drop-sets, drop-take, part-sets-before, sets-append}
-use Rattle.rules.proofs.Staging.{Tidy, lay-touch, tidy-touch}
+use Rattle.rules.proofs.Staging.{lay-touch, tidy-touch}
 use Rattle.stage.specs.View.{Reads, Staged, entriesOf, part, seen}
 use Rattle.stage.specs.Touched.{Grown, Room, Touched, added}
 use Rattle.stage.proofs.Counted.{fresh-at, fresh-behind, fresh-first}

@@ -10,12 +10,12 @@ use lib.Arith.{digits-div, digits-mod, digits-lt}
 use lib.Dec.{eqb}
 use lib.ListN.{length, getD}
 use Rattle.rules.specs.Words.{word}
-use Rattle.rules.specs.Shape.{Shape, byteAt, off, poolSize, row, rowAt, rowSize, zone, zonesAt}
+use Rattle.rules.specs.Shape.{InZones, Shape, byteAt, off, poolSize, row, rowAt, rowSize, zone, zonesAt}
 use Rattle.rules.specs.Parity.{columnByte, parityWord, xorTo}
 use Rattle.rules.specs.Scrub.{columnRight, countTo, sumTo}
 use Rattle.rules.specs.Header.{inRange}
 use Rattle.rules.proofs.Header.{range-ranged}
-use Rattle.rules.proofs.Shape.{Good, cell-high, cell-self, fits, off-cell, off-lt, row-in, zone-cell, zone-lt, InZones}
+use Rattle.rules.proofs.Shape.{Good, cell-high, cell-self, fits, off-cell, off-lt, row-in, zone-cell, zone-lt}
 use Rattle.rules.proofs.Xor.{xorTo-cong}
 use Rattle.columns.specs.Column.{RowsFit, Word, rowByte, rowWord, rowsZero}
 use Rattle.columns.proofs.Pages.{allTo-cong}

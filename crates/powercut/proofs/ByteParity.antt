@@ -7,11 +7,11 @@ use native.Mathlib.Omega.{arith}
 use lib.Bits.{bitXor}
 use lib.ListN.{getD}
 use Rattle.rules.specs.Words.{Bytes, number, word, field}
-use Rattle.rules.specs.Shape.{Shape, byteAt, off, row, rowAt, rowSize, zone, zonesAt}
+use Rattle.rules.specs.Shape.{InZones, Shape, byteAt, off, row, rowAt, rowSize, zone, zonesAt}
 use Rattle.rules.specs.Parity.{Parity, parityWord, xorTo}
 use Rattle.rules.proofs.Xor.{xorTo-cong, xorTo-last, xorTo-lt, xorTo-zero}
 use Rattle.rules.proofs.Words.{number-inj, number-xor, number-zero}
-use Rattle.rules.proofs.Shape.{Good, InZones, cell-in, off-cell, off-even, off-lt, page-eq, zone-cell, zone-lt}
+use Rattle.rules.proofs.Shape.{Good, cell-in, off-cell, off-even, off-lt, page-eq, zone-cell, zone-lt}
 use Rattle.powercut.proofs.FinalPool.{ParityW}
 
 -- an exclusive or of words is that of their bytes

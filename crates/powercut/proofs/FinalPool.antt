@@ -11,13 +11,13 @@ use lib.Dec.{leb, ltb, eqb}
 use borrow.Author.Tests.{eq-eqb, eqb-true, leb-true, ltb-true}
 use lib.ListN.{length, getD}
 use Rattle.rules.specs.Words.{Bytes, word}
-use Rattle.rules.specs.Shape.{Shape, entryLimit, logA, logB, parityAt, poolSize, rowAt, zonesAt}
+use Rattle.rules.specs.Shape.{InZones, Shape, entryLimit, logA, logB, parityAt, poolSize, rowAt, zonesAt}
 use Rattle.rules.specs.Staging.{Store, goodTarget, goodTargets, lay, noneAt}
 use Rattle.rules.specs.Parity.{parityWord}
 use Rattle.rules.proofs.Bool.{and-split}
 use Rattle.rules.proofs.Xor.{xorTo-cong, xorTo-lt}
 use Rattle.rules.proofs.Words.{word-lt}
-use Rattle.rules.proofs.Shape.{Good, InData, InZones, fits, row-data, row-in, row-of, row-row}
+use Rattle.rules.proofs.Shape.{Good, InData, fits, row-data, row-in, row-of, row-row}
 use Rattle.rules.proofs.Stores.{All, Covered, Distinct, Every, Fit, all-covered, all-map, bytes-lay, covered-fact, covered?, lay-every, lay-fact, lay-right, length-lay, right-all}
 
 -- ---- the tests, as facts

@@ -16,3 +16,4 @@ pub mod RunMatches
 pub mod PowerCut
 pub mod Refusals
 pub mod Committed
+pub mod Requirements

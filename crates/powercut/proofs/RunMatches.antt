@@ -15,7 +15,7 @@ use Rattle.rules.specs.Shape.{Shape, entryLimit, logA, logB, stagingSize}
 use Rattle.rules.specs.Test.{Test, first, when}
 use Rattle.rules.specs.Header.{openTests, shapeIn}
 use Rattle.rules.specs.Seals.{unsealed}
-use Rattle.rules.specs.Staging.{Phase, Store, Transaction, closed, commitLength, committing, entriesAt, goodTargets, isLive, live}
+use Rattle.rules.specs.Staging.{Phase, Store, Tidy, Transaction, closed, commitLength, committing, entriesAt, goodTargets, isLive, live}
 use Rattle.rules.specs.Answer.{After, Given, conclude, isRefused}
 use Rattle.rules.specs.Plan.{Call}
 use Rattle.rules.specs.Calls.{AllTyped, begun, entriesIn, liveTests, recordTests}
@@ -23,7 +23,6 @@ use Rattle.rules.specs.Sound.{Sound, bookOf}
 use Rattle.rules.proofs.Bool.{and-split, split}
 use Rattle.rules.proofs.Test.{Passed, first-passed, not-not, passed-left, passed-right}
 use Rattle.rules.proofs.Shape.{Good}
-use Rattle.rules.proofs.Staging.{Tidy}
 use Rattle.rules.proofs.Held.{Held}
 use Rattle.rules.proofs.Header.{SameHeaders, page-is, same-headers, shape-same, sound-good, sound-long, sound-opens, tests-same}
 use Rattle.rules.proofs.Transaction.{Kept, calls-kept, calls-pool, entries-count, targets-good}

@@ -17,7 +17,7 @@ use Rattle.rules.specs.Runs.{Run, Walk, cellCount, cells, cellsFor, chec
 use Rattle.rules.specs.Book.{Listed, enter, overwrite, strike}
 use Rattle.rules.specs.Search.{Place, fit, joined, runAt}
 use Rattle.rules.specs.Zones.{bodyOf, headAt, isDamaged, isObject, objectTests, runThere, walkIn, zoneData}
-use Rattle.rules.specs.Staging.{Store, lay, touchRange, touchWords}
+use Rattle.rules.specs.Staging.{Store, Tidy, lay, touchRange, touchWords}
 use Rattle.rules.specs.Plan.{Call, Fit, allocate, failed, fitAddress, fitIn, fitTest, fitted, joinedAt, plan, release, search, touchFree, touchJoined, touchObject, touchWrite, write}
 use Rattle.rules.specs.Calls.{Typed}
 use Rattle.rules.specs.NewBook.{newBook, onAddress, onTaken}
@@ -33,7 +33,7 @@ use Rattle.rules.proofs.ZoneBytes.{allocBytes, freeBytes, putFree, writ
 use Rattle.rules.proofs.Freed.{freed}
 use Rattle.rules.proofs.Allocated.{allocated}
 use Rattle.rules.proofs.Written.{body-bound, written}
-use Rattle.rules.proofs.Staging.{Tidy, lay-range, lay-words}
+use Rattle.rules.proofs.Staging.{lay-range, lay-words}
 use Rattle.rules.proofs.Zones.{Fits, Inside, Only, inside-range, inside-words, only-same, only-sets, zone-in, zone-length}
 use Rattle.rules.proofs.Held.{At, Held, at-zone, view-fits}
 

@@ -1,4 +1,4 @@
--- The check is two sums modulo 65521 (`check-mod`), and may be brought up to date byte by byte (`check-updated`).
+-- The check is two sums modulo 65521 (`check-sums`), and may be brought up to date byte by byte (`check-updated`).
 use Prim.Native.Nat.{ℕ, zero, suc, _+_, _-_, _*_, _/_, _%_, _^_, _≤_, _<_}
 use mathlib.Core.Path.{_≡_, refl, sym, ap, ap₂, _∙_, subst}
 use mathlib.Core.Logic.{_⊎_, inl, inr}
@@ -12,7 +12,7 @@ use borrow.Author.Tests.{ltb-true, ltb-false, lt-ltb, le-ltb}
 use lib.Seq.{set-getD}
 use lib.IntN.{pos, negsuc, negℤ, _-ℤ_, _*ℤ_}
 use Rattle.rules.specs.Words.{Bytes}
-use Rattle.rules.specs.Check.{check, high, low, modulus, moved, reduced, residue, updated}
+use Rattle.rules.specs.Check.{check, high, low, modulus, moved, reduced, residue, total, updated, weighted}
 use Rattle.rules.specs.Runs.{covered}
 use Rattle.rules.proofs.Bool.{split}
 use Rattle.rules.proofs.Words.{bytes-set}
@@ -55,7 +55,6 @@ high-mod a h (b ∷ bs) l m k =
     ap (λ (x : ℕ). high x (reduced (h + x)) bs) e ∙ ap (λ (x : ℕ). high ((a + b) % 65521) x bs) f
     ∙ high-mod ((a + b) % 65521) ((h + (a + b) % 65521) % 65521) bs l′ (mod-lt (h + (a + b) % 65521) {m = 65521} (omega arith)) (λ i. k (suc i))
 
--- THE CHECK IS TWO SUMS MODULO 65521
 pub check-mod : (bs : List ℕ) → Bytes bs → check bs ≡ highMod 1 0 bs * 65536 + lowMod 1 bs
 unfolding check
 check-mod bs k = ap₂ (λ (x y : ℕ). x * 65536 + y) (high-mod 1 0 bs (omega arith) (omega arith) k) (low-mod 1 bs (omega arith) k)
@@ -73,15 +72,6 @@ high-lt a h (b ∷ bs) k = high-lt ((a + b) % 65521) ((h + (a + b) % 65521) % 65
 
 -- ---- the sums, not reduced
 
-unfoldable total : List ℕ → ℕ
-total [] = 0
-total (b ∷ bs) = b + total bs
-
--- each byte times its distance from the end
-unfoldable weigh : List ℕ → ℕ
-weigh [] = 0
-weigh (b ∷ bs) = suc (length bs) * b + weigh bs
-
 low-sum : (a : ℕ) (bs : List ℕ) → a < 65521 → lowMod a bs ≡ (a + total bs) % 65521
 unfolding lowMod total
 low-sum a [] h = omega arith
@@ -90,12 +80,16 @@ low-sum a (b ∷ bs) h = low-sum ((a + b) % 65521) bs (omega arith) ∙ omega ar
 scale : (l y : ℕ) → l * y ≡ 65521 * (l * (y / 65521)) + l * (y % 65521)
 scale l y = ap (λ z. l * z) (sym (div-add-mod y 65521)) ∙ mul-add l (65521 * (y / 65521)) (y % 65521) ∙ ap (λ z. z + l * (y % 65521)) (mul-left-comm l 65521 (y / 65521))
 
-high-sum : (a h : ℕ) (bs : List ℕ) → h < 65521 → highMod a h bs ≡ (h + length bs * a + weigh bs) % 65521
-unfolding highMod weigh
+high-sum : (a h : ℕ) (bs : List ℕ) → h < 65521 → highMod a h bs ≡ (h + length bs * a + weighted bs) % 65521
+unfolding highMod weighted
 high-sum a h [] l = rw zero-mul (omega arith)
 high-sum a h (b ∷ bs) l =
     high-sum ((a + b) % 65521) ((h + (a + b) % 65521) % 65521) bs (omega arith)
     ∙ rw (suc-mul (length bs) a, suc-mul (length bs) b) (omega (arith, scale (length bs) (a + b), mul-add (length bs) a b))
+
+-- THE CHECK IS TWO SUMS MODULO 65521: of 1 and the bytes; of the low sums after each byte, so that each counts from itself to the end
+pub check-sums : (bs : List ℕ) → Bytes bs → check bs ≡ (length bs + weighted bs) % modulus * 65536 + (1 + total bs) % modulus
+check-sums bs k = check-mod bs k ∙ ap₂ (λ (x y : ℕ). x * 65536 + y) (high-sum 1 0 bs (omega arith) ∙ ap (λ (z : ℕ). z % modulus) (omega arith)) (low-sum 1 bs (omega arith))
 
 -- ---- one byte changes
 
@@ -105,11 +99,11 @@ total-set [] i v h = omega arith
 total-set (x ∷ xs) zero v h = omega arith
 total-set (x ∷ xs) (suc i) v h = omega (arith, total-set xs i v (omega arith))
 
-weigh-set : (xs : List ℕ) (i v : ℕ) → i < length xs → weigh (set xs i v) ≡ weigh (set xs i 0) + (length xs - i) * v
-unfolding weigh
-weigh-set [] i v h = omega arith
-weigh-set (x ∷ xs) zero v h = rw (mul-zero, sub-zero) (omega arith)
-weigh-set (x ∷ xs) (suc i) v h = rw (length-set xs i v, length-set xs i 0, suc-sub-suc) (omega (arith, weigh-set xs i v (omega arith)))
+weighted-set : (xs : List ℕ) (i v : ℕ) → i < length xs → weighted (set xs i v) ≡ weighted (set xs i 0) + (length xs - i) * v
+unfolding weighted
+weighted-set [] i v h = omega arith
+weighted-set (x ∷ xs) zero v h = rw (mul-zero, sub-zero) (omega arith)
+weighted-set (x ∷ xs) (suc i) v h = rw (length-set xs i v, length-set xs i 0, suc-sub-suc) (omega (arith, weighted-set xs i v (omega arith)))
 
 -- a difference of two numbers, by its sign
 pub difference : (u v : ℕ) → ((u ≤ v) × (pos v -ℤ pos u ≡ pos (v - u))) ⊎ ((v < u) × (pos v -ℤ pos u ≡ negsuc (u - suc v)))
@@ -142,7 +136,7 @@ unfolding updated
 check-updated xs i v hx hv h =
     let n : ℕ = length xs - i in
     let u : ℕ = getD xs i 0 in
-    let a : ℕ = length xs + weigh (set xs i 0) in
+    let a : ℕ = length xs + weighted (set xs i 0) in
     let b : ℕ = 1 + total (set xs i 0) in
     let old : check xs ≡ (a + n * u) % 65521 * 65536 + (b + 1 * u) % 65521 =
     subst (λ (l : List ℕ). check l ≡ (a + n * u) % 65521 * 65536 + (b + 1 * u) % 65521) (set-getD xs i 0) (at-place u (hx i)) in
@@ -152,12 +146,10 @@ check-updated xs i v hx hv h =
     ∙ sym (ap₂ (λ (x y : ℕ). x * 65536 + y) (ap (λ (z : ℕ). moved z n u v) top ∙ moved-sum a n u v) (ap (λ (z : ℕ). moved z 1 u v) bottom ∙ moved-sum b 1 u v))
   where
     at-place : (w : ℕ) → w < 256
-        → check (set xs i w) ≡ (length xs + weigh (set xs i 0) + (length xs - i) * w) % 65521 * 65536 + (1 + total (set xs i 0) + 1 * w) % 65521
+        → check (set xs i w) ≡ (length xs + weighted (set xs i 0) + (length xs - i) * w) % 65521 * 65536 + (1 + total (set xs i 0) + 1 * w) % 65521
     at-place w hw =
-        check-mod (set xs i w) (bytes-set xs i w hx hw)
-        ∙ ap₂ (λ (x y : ℕ). x * 65536 + y)
-        (high-sum 1 0 (set xs i w) (omega arith) ∙ ap (λ (z : ℕ). z % 65521) (rw (length-set xs i w, weigh-set xs i w h) (omega arith)))
-        (low-sum 1 (set xs i w) (omega arith) ∙ ap (λ (z : ℕ). z % 65521) (rw (total-set xs i w h) (omega arith)))
+        check-sums (set xs i w) (bytes-set xs i w hx hw)
+        ∙ ap₂ (λ (x y : ℕ). x % 65521 * 65536 + y % 65521) (rw (length-set xs i w, weighted-set xs i w h) (omega arith)) (rw (total-set xs i w h) (omega arith))
 
 -- a byte of the body, in the bytes that the check covers
 pub covered-set : (h b : List ℕ) (j v : ℕ) → length h ≡ 16 → covered h (set b j v) ≡ set (covered h b) (12 + j) v

@@ -12,7 +12,7 @@ use Rattle.rules.specs.Shape.{Shape, poolSize}
 use Rattle.rules.specs.Header.{differing, headerOk, headerShape, inRange, letters, openTests, pageAt, same, shapeIn, validHeader, within}
 use Rattle.rules.specs.Sound.{Sound}
 use Rattle.rules.proofs.Bool.{and-split, split}
-use Rattle.rules.proofs.Test.{Passed}
+use Rattle.rules.proofs.Test.{Passed, not-not}
 use Rattle.rules.proofs.Shape.{Good, good-shape, size-eq}
 
 pub same-refl : (xs : List ℕ) → same xs xs ≡ true
@@ -97,6 +97,16 @@ range-good sh e h =
 pub header-range : (h : List ℕ) → headerOk h ≡ true → inRange (headerShape h) ≡ true
 unfolding headerOk
 header-range h ok = and-split (inRange (headerShape h)) _ (and-split (same (take 4 h) letters) _ ok .1) .0
+
+-- where all tests are passed, the shape that counts is a valid header's
+pub passed-range : (p : List ℕ) → Passed (openTests p) → inRange (shapeIn p) ≡ true
+unfolding openTests shapeIn validHeader
+passed-range p o =
+    split (headerOk (pageAt p 0)) (λ e. rw e (header-range (pageAt p 0) e))
+    (λ e. rw e (header-range (pageAt p 256) (not-not (headerOk (pageAt p 256)) (rw e at (o .1 .0)))))
+
+pub passed-good : (p : List ℕ) → Passed (openTests p) → Good (shapeIn p)
+passed-good p o = range-good (shapeIn p) (unfold shapeIn headerShape in refl) (passed-range p o)
 
 module _ (p : List ℕ) (s : Sound p) where
   shape-first : shapeIn p ≡ headerShape (pageAt p 0)

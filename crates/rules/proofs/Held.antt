@@ -10,12 +10,11 @@ use Rattle.rules.specs.Shape.{Shape, zoneCells}
 use Rattle.rules.specs.Runs.{Run, cellCount}
 use Rattle.rules.specs.Book.{Listed, book}
 use Rattle.rules.specs.Zones.{walkIn, zoneData}
-use Rattle.rules.specs.Staging.{Store, lay}
+use Rattle.rules.specs.Staging.{Store, Tidy, lay}
 use Rattle.rules.proofs.Stores.{bytes-lay, length-lay}
 use Rattle.rules.proofs.Laid.{Laid, laid-length, laid-zone}
 use Rattle.rules.proofs.Book.{AllGood, Pos, laid-pos, pos-append, size-append}
 use Rattle.rules.proofs.Freed.{Change}
-use Rattle.rules.proofs.Staging.{Tidy}
 use Rattle.rules.proofs.Zones.{Fits, Inside, Only, Zones, flat, flat-append, pick, zone-length, zones-change}
 
 pub view-fits : (s : Shape) (pool : List ℕ) (es : List Store) → Fits s pool → Fits s (lay pool es)

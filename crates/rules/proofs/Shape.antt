@@ -4,14 +4,9 @@ use Prim.Native.Nat.{ℕ, _+_, _-_, _*_, _/_, _%_, _^_, _≤_, _<_}
 use native.Mathlib.Nat.{mod-lt, div-lt-iff-lt-mul, div-add-mod', add-sub-cancel-left, mul-pos, mul-le-mul, mul-add-mod-self-right}
 use native.Mathlib.Omega.{arith}
 use lib.Arith.{digits-div, digits-mod, digits-lt}
-use Rattle.rules.specs.Shape.{Shape, byteAt, off, poolSize, row, rowAt, rowSize, zone, zoneAt, zoneCells, zonesAt}
+use Rattle.rules.specs.Shape.{InZones, Shape, byteAt, off, poolSize, row, rowAt, rowSize, zone, zoneAt, zoneCells, zonesAt}
 
--- the place of a word of the zones, and of a word of a data row
-pub record InZones (sh : Shape) (t : ℕ) : Type 0 where
-  pub low : zonesAt sh ≤ t
-  pub high : t < poolSize sh
-  pub even : t % 8 ≡ 0
-
+-- the place of a word of a data row
 pub record InData (sh : Shape) (t : ℕ) : Type 0 where
   pub inside : InZones sh t
   pub data-row : row sh t < sh .rows

@@ -12,7 +12,7 @@ use lib.Dec.{leb, eqb}
 use borrow.Author.Tests.{eqb-true, eqb-false, leb-true, leb-false}
 use Rattle.rules.specs.Words.{Bytes, digits, put, word}
 use Rattle.rules.specs.Shape.{Shape}
-use Rattle.rules.specs.Staging.{Phase, Store, entriesAt, goodTargets, impossible, lay, live, pastCommit, touch, touchRange, touchWords, wordCount, wordFrom}
+use Rattle.rules.specs.Staging.{Fresh, Phase, Store, Tidy, entriesAt, goodTargets, impossible, lay, live, pastCommit, touch, touchRange, touchWords, wordCount, wordFrom}
 use Rattle.rules.proofs.Bool.{split}
 use Rattle.rules.proofs.Words.{bytes-drop, bytes-sets, bytes-take, digits-word, length-digits, word-lt}
 use Rattle.rules.proofs.Sets.{drop-sets, sets-append, sets-comm, sets-sets, take-sets}
@@ -29,15 +29,7 @@ pub possible-few : (sh : Shape) (st : List ℕ) → goodTargets sh (entriesAt st
 unfolding impossible pastCommit
 possible-few sh st g = ap not g
 
--- ---- entries in order: words at multiples of 8, no target twice
-
-abbrev pub Fresh : ℕ → List Store → Type 0
-Fresh o [] = Unit {0}
-Fresh o (x ∷ xs) = (x .at ≢ o) × Fresh o xs
-
-abbrev pub Tidy : List Store → Type 0
-Tidy [] = Unit {0}
-Tidy (x ∷ xs) = (x .at % 8 ≡ 0) × (x .val < 2 ^ 64) × Fresh (x .at) xs × Tidy xs
+-- ---- entries in order
 
 apart : (a b : ℕ) → a % 8 ≡ 0 → b % 8 ≡ 0 → a ≢ b → (a + 8 ≤ b) ⊎ (b + 8 ≤ a)
 apart a b p q h = go (leb a b) refl

@@ -13,7 +13,7 @@ use Rattle.rules.specs.Shape.{Shape, entryLimit, poolSize, row, stagingS
 use Rattle.rules.specs.Test.{first}
 use Rattle.rules.specs.Header.{openTests, shapeIn}
 use Rattle.rules.specs.Book.{Listed}
-use Rattle.rules.specs.Staging.{Store, entriesAt, entryBytes, goodTarget, goodTargets, lay, live, noneAt}
+use Rattle.rules.specs.Staging.{Fresh, Store, Tidy, entriesAt, entryBytes, goodTarget, goodTargets, lay, live, noneAt}
 use Rattle.rules.specs.Answer.{After, Given, conclude, isRefused, refused}
 use Rattle.rules.specs.Plan.{Call, Plan, allocate, plan, release, write}
 use Rattle.rules.specs.Calls.{AllTyped, Typed, call, callTests, calls, entriesIn, liveTests, recordTests, staged}
@@ -22,7 +22,6 @@ use Rattle.rules.proofs.Test.{Passed, first-passed, passed-left, passed
 use Rattle.rules.proofs.Words.{bytes-append, digits-byte, length-digits, length-put, sets-before, word-cong, word-put, word-put-other}
 use Rattle.rules.proofs.Sets.{sets-append}
 use Rattle.rules.proofs.Shape.{Good, row-in-zone, zone-low}
-use Rattle.rules.proofs.Staging.{Fresh, Tidy}
 use Rattle.rules.proofs.Zones.{Fits, InZone, Inside, zone-in}
 use Rattle.rules.proofs.Held.{Held}
 use Rattle.rules.proofs.Calls.{plan-kept}

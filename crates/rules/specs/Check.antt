@@ -1,7 +1,8 @@
 -- The check (01, "The pool's bytes"): two sums modulo 65521, of whole bytes and brought up to date. Assumes nothing.
-use Prim.Native.Nat.{ℕ, _+_, _-_, _*_, _/_, _%_}
+use Prim.Native.Nat.{ℕ, suc, _+_, _-_, _*_, _/_, _%_}
 use mathlib.Core.Bool.{cond}
 use mathlib.Core.List.{List, [], _∷_}
+use lib.ListN.{length}
 use lib.Dec.{ltb}
 use lib.IntN.{ℤ, pos, negsuc, _-ℤ_, _*ℤ_}
 
@@ -25,6 +26,16 @@ high a h (b ∷ bs) = high (reduced (a + b)) (reduced (h + reduced (a + b))) bs
 -- The low sum starts at 1, the high one at 0. The check is high × 65536 + low.
 unfoldable pub check : List ℕ → ℕ
 check bs = high 1 0 bs * 65536 + low 1 bs
+
+-- ---- The sums without their reduction: of the bytes, and of each byte times its distance from the end.
+
+unfoldable pub total : List ℕ → ℕ
+total [] = 0
+total (b ∷ bs) = b + total bs
+
+unfoldable pub weighted : List ℕ → ℕ
+weighted [] = 0
+weighted (b ∷ bs) = suc (length bs) * b + weighted bs
 
 -- ---- One byte changes from u to v, with n bytes from it to the end: the low sum moves by v − u and the high one by n × (v − u).
 

@@ -5,7 +5,8 @@
 --   page 1      its copy                          zone 1, and so on
 --   pages 2-9   log A
 --   pages 10-17 log B
-use Prim.Native.Nat.{ℕ, _+_, _-_, _*_, _/_, _%_}
+use Prim.Native.Nat.{ℕ, _+_, _-_, _*_, _/_, _%_, _≤_, _<_}
+use mathlib.Core.Path.{_≡_}
 
 -- ---- The limits that belong to the type of the pool's shape, as its constants.
 
@@ -101,3 +102,9 @@ module _ (sh : Shape) where
 
   abbrev pub parityAt : ℕ → ℕ
   parityAt t = rowAt t (sh .rows)
+
+-- t is the place of a word of the zones.
+pub record InZones (sh : Shape) (t : ℕ) : Type 0 where
+  pub low : zonesAt sh ≤ t
+  pub high : t < poolSize sh
+  pub even : t % 8 ≡ 0

@@ -1,6 +1,8 @@
 -- The open transaction (01, "Transactions"): its record, its entries in lent staging memory, and words touched. 01's touch adds a word to
 -- the write set. Assumes nothing.
-use Prim.Native.Nat.{ℕ, zero, suc, _+_, _*_, _/_, _%_}
+use Prim.Native.Nat.{ℕ, zero, suc, _+_, _*_, _/_, _%_, _^_, _<_}
+use mathlib.Core.Path.{_≡_}
+use mathlib.Core.Logic.{_≢_}
 use mathlib.Core.Bool.{Bool, true, false, not, cond, _&&_, _||_}
 use mathlib.Core.List.{List, [], _∷_, _++_}
 use lib.ListN.{take, drop}
@@ -63,6 +65,17 @@ module _ (sh : Shape) where
   abbrev pub goodTargets : List Store → Bool
   goodTargets [] = true
   goodTargets (e ∷ es) = goodTarget (e .at) && (noneAt (e .at) es && goodTargets es)
+
+-- ---- Entries in order: each target a multiple of 8, each value a word, no target twice.
+
+-- No entry has the target o.
+abbrev pub Fresh : ℕ → List Store → Type 0
+Fresh o [] = Unit {0}
+Fresh o (x ∷ xs) = (x .at ≢ o) × Fresh o xs
+
+abbrev pub Tidy : List Store → Type 0
+Tidy [] = Unit {0}
+Tidy (x ∷ xs) = (x .at % 8 ≡ 0) × (x .val < 2 ^ 64) × Fresh (x .at) xs × Tidy xs
 
 -- ---- The record. 01 calls the first phase open; k steps of the commit have been made.
 

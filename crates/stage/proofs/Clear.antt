@@ -7,11 +7,10 @@ use native.Mathlib.Omega.{arith}
 use lib.Dec.{leb}
 use borrow.Author.Tests.{leb-true, leb-false}
 use Rattle.rules.specs.Words.{digits, put, word}
-use Rattle.rules.specs.Staging.{Store, entriesAt, lay}
+use Rattle.rules.specs.Staging.{Store, Tidy, entriesAt, lay}
 use Rattle.rules.proofs.Bool.{split}
 use Rattle.rules.proofs.Words.{length-digits}
 use Rattle.rules.proofs.Sets.{part-sets-before, part-sets-behind}
-use Rattle.rules.proofs.Staging.{Tidy}
 use Rattle.words.specs.Loaded.{Loaded}
 use Rattle.stage.specs.View.{Staged, entriesOf, part, seen}
 use Rattle.stage.proofs.View.{seen-none}

@@ -10,9 +10,8 @@ use native.Mathlib.Omega.{arith}
 use lib.Dec.{eqb, leb}
 use borrow.Author.Tests.{eqb-true, eqb-false, leb-true, leb-false, ne-eqb}
 use Rattle.rules.specs.Words.{word}
-use Rattle.rules.specs.Staging.{Store, entriesAt}
+use Rattle.rules.specs.Staging.{Fresh, Store, Tidy, entriesAt}
 use Rattle.rules.proofs.Bool.{split}
-use Rattle.rules.proofs.Staging.{Fresh, Tidy}
 use Rattle.words.specs.Loaded.{Loaded}
 use Rattle.stage.specs.View.{entriesOf}
 use Rattle.stage.specs.Touched.{Touched, TouchedWords, added, entriesIn, missing, wordIn}

@@ -9,10 +9,9 @@ use lib.ListN.{length}
 use lib.Dec.{eqb}
 use borrow.Author.Tests.{eqb-false, eq-eqb, ne-eqb}
 use Rattle.rules.specs.Words.{field, put, word}
-use Rattle.rules.specs.Staging.{Store, entriesAt, touch}
+use Rattle.rules.specs.Staging.{Fresh, Store, entriesAt, touch}
 use Rattle.rules.proofs.Bool.{split}
 use Rattle.rules.proofs.Words.{word-put-other}
-use Rattle.rules.proofs.Staging.{Fresh}
 use Rattle.rules.proofs.Transaction.{entries-count}
 use Rattle.stage.specs.View.{entriesOf}
 use Rattle.words.specs.Loaded.{Loaded}

@@ -10,11 +10,10 @@ use lib.Dec.{eqb}
 use borrow.Author.Tests.{eqb-true, eqb-false, not-true}
 use Rattle.rules.specs.Words.{Bytes, field, put, word}
 use Rattle.rules.specs.Shape.{Shape, poolSize}
-use Rattle.rules.specs.Staging.{Store, entriesAt, goodTarget, goodTargets, lay, noneAt}
+use Rattle.rules.specs.Staging.{Fresh, Store, Tidy, entriesAt, goodTarget, goodTargets, lay, noneAt}
 use Rattle.rules.proofs.Bool.{and-split, split}
 use Rattle.rules.proofs.Words.{bytes-drop, digits-word, field-part, length-put, word-lt, word-put, word-put-other}
 use Rattle.rules.proofs.Shape.{Good, size-words}
-use Rattle.rules.proofs.Staging.{Fresh, Tidy}
 use Rattle.rules.proofs.Stores.{bytes-lay, length-lay}
 use Rattle.stage.specs.View.{Reads, Staged, entriesOf, part, seen}
 use Rattle.words.specs.Loaded.{Loaded}

@@ -5,8 +5,7 @@ use mathlib.Core.Path.{_≡_}
 use mathlib.Core.List.{List}
 use lib.ListN.{length, take, drop}
 use Rattle.rules.specs.Words.{digits, word}
-use Rattle.rules.specs.Staging.{Store, entriesAt, lay}
-use Rattle.rules.proofs.Staging.{Tidy}
+use Rattle.rules.specs.Staging.{Store, Tidy, entriesAt, lay}
 
 -- The n entries of staging memory, and the pool as staged.
 unfoldable pub entriesOf : List ℕ → ℕ → List Store

@@ -8,11 +8,11 @@ use native.Mathlib.Omega.{arith}
 use lib.ListN.{length, getD}
 use borrow.Author.Tests.{eq-eqb, ne-eqb}
 use Rattle.rules.specs.Words.{word}
-use Rattle.rules.specs.Shape.{Shape as PoolShape, logA, logB, parityAt, poolSize}
+use Rattle.rules.specs.Shape.{InZones, Shape as PoolShape, logA, logB, parityAt, poolSize}
 use Rattle.rules.specs.Staging.{noneAt, entriesAt}
 use Rattle.rules.specs.Parity.{parityWord}
 use Rattle.rules.proofs.Bool.{and-split}
-use Rattle.rules.proofs.Shape.{InZones, fits as word-fits, row-in}
+use Rattle.rules.proofs.Shape.{fits as word-fits, row-in}
 use Rattle.powercut.specs.Log.{sealOf}
 use Rattle.powercut.specs.Steps.{Step, barrier, commitSteps, logStores, parity, recoverySteps, redo, stepPool, store}
 use Rattle.powercut.specs.Commit.{madeAnswer}

@@ -25,7 +25,7 @@ coming-start v from n a =
       join = ap (λ (x : Walk). joined a 0 0 (x .runs)) w;
     }
 
-pub free-of : (r : Run) (m : ℕ) (f : Bool) → cells r ≡ m → isFree r ≡ f → freeOf m f ≡ freeCells r
+free-of : (r : Run) (m : ℕ) (f : Bool) → cells r ≡ m → isFree r ≡ f → freeOf m f ≡ freeCells r
 unfolding freeOf
 free-of (free n) m f p q = rw (← q, ← p)
 free-of (object n t b g) m f p q = rw (← q)

@@ -7,7 +7,6 @@ ghost use Rattle.rules.specs.Search.{runAt};
 ghost use Rattle.stage.specs.Clear.{Clear};
 ghost use Rattle.stage.specs.View.{seen, Staged};
 ghost use Rattle.runs.specs.Rest.{restOf, walkOf, walkOn, Meets, Zoned};
-ghost use Rattle.runs.specs.Sought.{Sought};
 ghost use Rattle.runs.specs.Spotted.{freeOf, Came, Joined, Lead, Located, Spotted};
 
 // A zone's data bytes: where they start, and their cells.
@@ -29,14 +28,14 @@ pub struct Step {
     pub next: usize,
 }
 
-// How far a walk came: whether it met no broken run, the free cells right before the cell it came to, that cell, whether a free run stands
-// before it, and a place up to which no entry has a target from there on.
-pub struct Way {
-    pub whole: bool,
-    pub prior: usize,
-    pub cell: usize,
-    pub after: bool,
-    pub next: usize,
+// How far the walk to a cell came: whether it met no broken run, the free cells right before the cell it came to, that cell, whether a free
+// run stands before it, and a place up to which no entry has a target from there on.
+struct Way {
+    whole: bool,
+    prior: usize,
+    cell: usize,
+    after: bool,
+    next: usize,
 }
 
 // A cell where a run may begin: whether its zone is unbroken; and in an unbroken zone the free cells right before it, the run's cells (0 where
@@ -139,7 +138,7 @@ fn free_cells(cells: usize, free: bool) -> usize
 }
 
 // Whether a zone is unbroken from cell `from` on, behind a free run or not, where no entry has a target from there on below `place`.
-fn whole_from(
+pub fn whole_from(
     pool: &[u8],
     staging: &[u8],
     count: usize,
@@ -166,70 +165,6 @@ fn whole_from(
         next = m.next;
     }
     true
-}
-
-// The walk to the first free run of `k` cells or more, or to the zone's end.
-fn walk_to_fit(pool: &[u8], staging: &[u8], count: usize, zone: Zone, k: usize) -> Way
-    requires { ⌜ Staged (now pool) (now staging) count × Zoned (now pool) (zone .from) (zone .cells) ⌝ }
-    ensures { λ r. ⌜ Sought (seen (now (pool .entry)) (now (staging .entry)) count) (now (staging .entry)) count (zone .from) (zone .cells) k (r .whole) (r .cell) (r .after) (r .next) ⌝ }
-{
-    let cells = zone.cells;
-    let mut c = 0;
-    let mut after = false;
-    let mut next = 0;
-    while c < cells {
-        let m = advance(pool, staging, count, zone, c, after, next);
-        let n = m.cells;
-        if n == 0 {
-            return Way {
-                whole: false,
-                prior: 0,
-                cell: c,
-                after,
-                next,
-            };
-        }
-        if k <= free_cells(n, m.free) {
-            return Way {
-                whole: true,
-                prior: 0,
-                cell: c,
-                after,
-                next,
-            };
-        }
-        c += n;
-        after = m.free;
-        next = m.next;
-    }
-    Way {
-        whole: true,
-        prior: 0,
-        cell: c,
-        after,
-        next,
-    }
-}
-
-// Whether a zone is unbroken, and the way to its first free run of `k` cells or more, by one walk.
-pub fn judge(pool: &[u8], staging: &[u8], count: usize, zone: Zone, k: usize) -> Way
-    requires { ⌜ Staged (now pool) (now staging) count × Zoned (now pool) (zone .from) (zone .cells) ⌝ }
-    ensures { λ r. ⌜ (r .whole ≡ walkOf (seen (now (pool .entry)) (now (staging .entry)) count) (zone .from) (zone .cells) .whole) × Sought (seen (now (pool .entry)) (now (staging .entry)) count) (now (staging .entry)) count (zone .from) (zone .cells) k (r .whole) (r .cell) (r .after) (r .next) ⌝ }
-{
-    let w = walk_to_fit(pool, staging, count, zone, k);
-    if !w.whole {
-        return w;
-    }
-    let cell = w.cell;
-    let after = w.after;
-    let next = w.next;
-    Way {
-        whole: whole_from(pool, staging, count, zone, cell, after, next),
-        prior: 0,
-        cell,
-        after,
-        next,
-    }
 }
 
 // The walk to the first run that begins at or behind cell `a`.

@@ -41,8 +41,8 @@ fn fits(cells: usize, free: bool, k: usize) -> bool
     false
 }
 
-// The lowest zone's lowest free run of `k` cells or more; each zone is first judged whole, by a walk that also finds the way
-// to its first fit.
+// The lowest zone's lowest free run of `k` cells or more. Each zone is judged whole by the one walk that searches it; the first run that
+// fits leaves both loops, once the rest of its zone is judged.
 pub fn search(pool: &[u8], staging: &[u8], count: usize, s: Shape, k: usize) -> Found
     requires { ⌜ Staged (now pool) (now staging) count × Shaped (now pool) (shapeOf s) ⌝ }
     ensures { λ r. ⌜ foundOf r ≡ searchFrom (shapeOf s) (seen (now (pool .entry)) (now (staging .entry)) count) k 0 (s .zones) ⌝ }
@@ -53,18 +53,20 @@ pub fn search(pool: &[u8], staging: &[u8], count: usize, s: Shape, k: usize) -> 
     let mut n = 0;
     'search: while z < zones {
         let place = zone(s, z);
-        let way = runs::judge(pool, staging, count, place, k);
-        if !way.whole {
-            return Found::Refused(23);
-        }
         let cells = place.cells;
-        let mut after = way.after;
-        let mut next = way.next;
-        c = way.cell;
+        let mut after = false;
+        let mut next = 0;
+        c = 0;
         while c < cells {
             let m = runs::advance(pool, staging, count, place, c, after, next);
             n = m.cells;
+            if n == 0 {
+                return Found::Refused(23);
+            }
             if fits(n, m.free, k) {
+                if !runs::whole_from(pool, staging, count, place, c + n, m.free, m.next) {
+                    return Found::Refused(23);
+                }
                 break 'search;
             }
             c += n;

@@ -3,21 +3,23 @@ use Rattle.rules.specs.Plan.{fitted}
 use Rattle.layout.specs.Reading.{shapeOf}
 use Rattle.stage.specs.View.{seen}
 use Rattle.stage.specs.Clear.{Clear}
-use Rattle.stage.proofs.Clear.{clear-later}
+use Rattle.stage.proofs.Clear.{clear-empty, clear-later}
 use Prim.Native.Nat.{ℕ, _+_, _*_, _-_}
 use mathlib.Core.Logic.{⊎-elim}
 use mathlib.Core.Path.{ap₂, _∙_}
 use borrow.Author.Tests.{not-false, not-true}
-use Rattle.runs.proofs.Rest.{whole-passed, zoned-seen}
+use Rattle.runs.specs.Rest.{Passed, Zoned}
+use Rattle.runs.proofs.Rest.{walk-passed, zoned-seen}
 use Rattle.zones.proofs.Shaped.{zone-inside}
-use Rattle.zones.proofs.Searching.{Inside, Outside, inside-end, inside-hit, inside-pass, inside-seek, outside-broken, outside-end, outside-start}
+use Rattle.zones.proofs.Searching.{Inside, Outside, inside-broken, inside-broken-behind, inside-end, inside-hit, inside-pass, inside-start, outside-end, outside-start}
 use borrow.Author.Needs.{needs}
 use native.Mathlib.Omega.{arith}
 use Rattle.zones.proofs.search.Statement.{statement}
 use Rattle.zones.proofs.search.Tie as tie
 
 abbrev Inv-loop : tie.InvT-loop
-Inv-loop pool staging count s k zones z c₀ n₀ place cells after₀ next₀ c n after next = Inside (shapeOf s) (seen pool staging count) k z (place .from) (place .cells) c after × Clear staging count (place .from + 64 * c) next
+Inv-loop pool staging count s k zones z c₀ n₀ place cells after₀ next₀ c n after next =
+    Inside (shapeOf s) (seen pool staging count) k z (place .from) (place .cells) c after × Clear staging count (place .from + 64 * c) next × Zoned pool (place .from) (place .cells)
 
 abbrev μ-loop : tie.MeasureT-loop
 μ-loop pool staging count s k zones z c₀ n₀ place cells after₀ next₀ c n after next = place .cells - c
@@ -34,48 +36,59 @@ search-holds c = outside-start _ _ _
 zone-requires : tie.Need-zone-requires Inv-loop μ-loop Inv-search μ-search
 zone-requires c κs = (c .before .before .before .before .pre .1 .range, c .search-test .taken)
 
-judge-requires : tie.Need-judge-requires Inv-loop μ-loop Inv-search μ-search
-judge-requires c κs =
-    let s = c .before .before .before .before .before in
-    (s .pre .0, zone-inside (s .args .s) (s .pre .1 .range) (s .pre .1 .size) (c .before .search-test .taken) (c .zone .ensures))
-
-returns : tie.Need-returns Inv-loop μ-loop Inv-search μ-search
-returns c = outside-broken (c .before .before .before .before .before .search .inv) (c .before .before .before .before .search-test .taken) (c .before .before .before .zone .ensures) (c .before .before .judge .ensures .0) (not-true (c .before .before .judge .result .whole) (c .if1 .taken))
-
 loop-holds : tie.Need-loop-holds Inv-loop μ-loop Inv-search μ-search
 loop-holds c =
-    let j = c .before .before .judge in
-    let t = not-false (j .result .whole) (c .if1 .left) in
-    (inside-seek (c .before .before .before .before .before .search .inv) (c .before .before .before .before .search-test .taken) (c .before .before .before .zone .ensures) (j .ensures .0) t (j .ensures .1 .seeking t), j .ensures .1 .clear t)
+    let s = c .before .before .before .before .before in (
+      inside-start (c .before .before .search .inv) (c .before .search-test .taken) (c .zone .ensures),
+      clear-empty (s .args .staging .now) (s .args .count) (omega arith),
+      zone-inside (s .args .s) (s .pre .1 .range) (s .pre .1 .size) (c .before .search-test .taken) (c .zone .ensures),
+    )
 
 advance-requires : tie.Need-advance-requires Inv-loop μ-loop Inv-search μ-search
-advance-requires c κs =
-    let s = c .before .before .before .before .before .before .before .before .before .before in
-    (s .pre .0, zone-inside (s .args .s) (s .pre .1 .range) (s .pre .1 .size) (c .before .before .before .before .before .before .search-test .taken) (c .before .before .before .before .before .zone .ensures), c .loop-test .taken, c .before .loop .inv .1)
+advance-requires c κs = let l = c .before .loop in (c .before .before .before .before .before .before .before .pre .0, l .inv .2, c .loop-test .taken, l .inv .1)
+
+returns : tie.Need-returns Inv-loop μ-loop Inv-search μ-search
+returns c =
+    let s = c .before .before .before .before .before .before .before .before .before in
+    let l = c .before .before .before .loop in
+    inside-broken (l .inv .0) (zoned-seen (s .args .staging .now) (s .args .count) (l .inv .2)) (c .before .before .loop-test .taken) (c .before .advance .ensures .0) (c .if1 .taken)
 
 fits-requires : tie.Need-fits-requires Inv-loop μ-loop Inv-search μ-search
 fits-requires c κs = search needs
 
+-- the run that was met
+passed : (c : tie.Else1 Inv-loop μ-loop Inv-search μ-search)
+    → let s = c .before .before .before .before .before .before .before .before .before in
+    let l = c .before .before .before .loop in
+    Passed (seen (s .args .pool .now) (s .args .staging .now) (s .args .count)) (c .before .before .before .before .zone .result .from) (c .before .before .before .before .zone .result .cells) (l .c) (l .after) (c .before .advance .result .cells) (c .before .advance .result .free)
+passed c =
+    let s = c .before .before .before .before .before .before .before .before .before in
+    walk-passed (zoned-seen (s .args .staging .now) (s .args .count) (c .before .before .before .loop .inv .2)) (c .before .before .loop-test .taken) (c .before .advance .ensures .0) (c .if1 .left)
+
+add-whole-from : tie.Need-add-whole-from Inv-loop μ-loop Inv-search μ-search
+add-whole-from c = omega (arith, passed (c .before .before) .within, c .before .before .before .before .before .loop .inv .2 .inside)
+
+whole-from-requires : tie.Need-whole-from-requires Inv-loop μ-loop Inv-search μ-search
+whole-from-requires c κs =
+    let h = c .before .before in
+    (h .before .before .before .before .before .before .before .before .before .pre .0, h .before .before .before .loop .inv .2, omega (arith, passed h .within), clear-later (omega arith) (h .before .advance .ensures .1))
+
+returns-2 : tie.Need-returns-2 Inv-loop μ-loop Inv-search μ-search
+returns-2 c =
+    let h = c .before .before .before .before in
+    inside-broken-behind (h .before .before .before .loop .inv .0) (passed h) (c .before .whole-from .ensures) (not-true (c .before .whole-from .result) (c .if3 .taken))
+
 add-c : tie.Need-add-c Inv-loop μ-loop Inv-search μ-search
-add-c c =
-    let s = c .before .before .before .before .before .before .before .before .before .before .before .before .before in
-    let z = zone-inside (s .args .s) (s .pre .1 .range) (s .pre .1 .size) (c .before .before .before .before .before .before .before .before .before .search-test .taken) (c .before .before .before .before .before .before .before .before .zone .ensures) in
-    let p = whole-passed (zoned-seen (s .args .staging .now) (s .args .count) z) (c .before .before .before .loop-test .taken) (c .before .before .before .before .loop .inv .0 .whole) (c .before .before .advance .ensures .0) in
-    omega (arith, p .within, z .inside)
+add-c c = omega (arith, passed (c .before .before) .within, c .before .before .before .before .before .loop .inv .2 .inside)
 
 loop-less : tie.Need-loop-less Inv-loop μ-loop Inv-search μ-search
-loop-less c =
-    let s = c .before .before .before .before .before .before .before .before .before .before .before .before .before in
-    let z = zone-inside (s .args .s) (s .pre .1 .range) (s .pre .1 .size) (c .before .before .before .before .before .before .before .before .before .search-test .taken) (c .before .before .before .before .before .before .before .before .zone .ensures) in
-    let p = whole-passed (zoned-seen (s .args .staging .now) (s .args .count) z) (c .before .before .before .loop-test .taken) (c .before .before .before .before .loop .inv .0 .whole) (c .before .before .advance .ensures .0) in
-    omega (arith, p .within, p .some)
+loop-less c = let p = passed (c .before .before) in omega (arith, p .within, p .some)
 
 loop-again : tie.Need-loop-again Inv-loop μ-loop Inv-search μ-search
 loop-again c =
-    let s = c .before .before .before .before .before .before .before .before .before .before .before .before .before in
-    let z = zone-inside (s .args .s) (s .pre .1 .range) (s .pre .1 .size) (c .before .before .before .before .before .before .before .before .before .search-test .taken) (c .before .before .before .before .before .before .before .before .zone .ensures) in
-    let p = whole-passed (zoned-seen (s .args .staging .now) (s .args .count) z) (c .before .before .before .loop-test .taken) (c .before .before .before .before .loop .inv .0 .whole) (c .before .before .advance .ensures .0) in
-    (inside-pass (c .before .before .before .before .loop .inv .0) p (c .before .fits2 .ensures) (c .if2 .left), clear-later (omega arith) (c .before .before .advance .ensures .1))
+    let h = c .before .before in
+    let l = h .before .before .before .loop in
+    (inside-pass (l .inv .0) (passed h) (c .before .fits2 .ensures) (c .if2 .left), clear-later (omega arith) (h .before .advance .ensures .1), l .inv .2)
 
 add-z : tie.Need-add-z Inv-loop μ-loop Inv-search μ-search
 add-z c = search needs
@@ -85,21 +98,22 @@ search-less c = search needs
 
 search-again : tie.Need-search-again Inv-loop μ-loop Inv-search μ-search
 search-again c =
-    let s = c .before .before .before .before .before .before .before .before .before .before in
-    inside-end (c .before .loop .inv .0) (zoned-seen (s .args .staging .now) (s .args .count) (zone-inside (s .args .s) (s .pre .1 .range) (s .pre .1 .size) (c .before .before .before .before .before .before .search-test .taken) (c .before .before .before .before .before .zone .ensures))) (c .loop-test .left) (c .before .before .before .before .before .before .search-test .taken)
+    let s = c .before .before .before .before .before .before .before in
+    let l = c .before .loop in
+    inside-end (l .inv .0) (zoned-seen (s .args .staging .now) (s .args .count) (l .inv .2)) (c .loop-test .left)
 
-returns-2 : tie.Need-returns-2 Inv-loop μ-loop Inv-search μ-search
-returns-2 c =
+returns-3 : tie.Need-returns-3 Inv-loop μ-loop Inv-search μ-search
+returns-3 c =
     let s = c .before .before .before .before .before in
     ⊎-elim
     (λ w. let b : ⊥ = omega arith in absurd b)
     (λ w.
-    let p = whole-passed (zoned-seen (s .args .staging .now) (s .args .count) (zone-inside (s .args .s) (s .pre .1 .range) (s .pre .1 .size) (w .0 .taken) (w .1 .ensures))) (w .6 .taken) (w .5 .inv .0 .whole) (w .7 .ensures .0) in
-    ap₂ (λ (x y : ℕ). fitted (c .before .before .search .z) (record { cell = x; count = y })) (w .10) (w .11) ∙ inside-hit (w .5 .inv .0) p (w .8 .ensures) (w .9 .taken))
+    let p = walk-passed (zoned-seen (s .args .staging .now) (s .args .count) (w .2 .inv .2)) (w .3 .taken) (w .4 .ensures .0) (w .5 .left) in
+    ap₂ (λ (x y : ℕ). fitted (c .before .before .search .z) (record { cell = x; count = y })) (w .10) (w .11) ∙ inside-hit (w .2 .inv .0) p (w .6 .ensures) (w .7 .taken) (w .8 .ensures) (not-false (w .8 .result) (w .9 .left)))
     (c .before .search-test .came)
 
-returns-3 : tie.Need-returns-3 Inv-loop μ-loop Inv-search μ-search
-returns-3 c = outside-end (c .before .before .search .inv) (c .if3 .left)
+returns-4 : tie.Need-returns-4 Inv-loop μ-loop Inv-search μ-search
+returns-4 c = outside-end (c .before .before .search .inv) (c .if4 .left)
 
 pub search-spec : {M : Type 1} → statement M
 search-spec =
@@ -111,16 +125,18 @@ search-spec =
     μ-search
     search-holds
     zone-requires
-    judge-requires
-    returns
     loop-holds
     advance-requires
+    returns
     fits-requires
+    add-whole-from
+    whole-from-requires
+    returns-2
     add-c
     loop-less
     loop-again
     add-z
     search-less
     search-again
-    returns-2
-    returns-3)
+    returns-3
+    returns-4)

@@ -4,6 +4,7 @@
 --   R 1, C 1, Z 1, 5,120 bytes: log A at 512, row 0 at 4608: 3 free cells, then an object, which is freed
 use Prim.Native.Nat.{ℕ}
 use mathlib.Core.Path.{_≡_, refl}
+use mathlib.Core.Logic.{_⊎_}
 use mathlib.Core.Bool.{true, false}
 use mathlib.Core.List.{List, [], _∷_, _++_, Sublistᴰ·slnil, Sublistᴰ·cons}
 use native.Mathlib.Omega.{arith}
@@ -30,7 +31,7 @@ use Rattle.powercut.specs.Power.{State, act, isSeal, keep, view}
 use Rattle.powercut.specs.Commit.{commitList, commitNext, commitStart, commitStep, commitTests, isCommitting, nextPhase, placeIn, startAnswer, startPhase, stepAnswer, madeAnswer}
 use Rattle.powercut.specs.Recovery.{Recovery, recovering, recoveryList}
 use Rattle.powercut.specs.WholeRun.{Accepted, Makes, Run, begin, commit, cut, cutOff, entries, holding, made, meets, next, resuming, step}
-use Rattle.powercut.specs.Claim.{End, Requirement3, oldOrNew}
+use Rattle.powercut.specs.Claim.{End, EndsIn, Requirement3, oldOrNew}
 
 -- Each definition that the run goes through, opened at once.
 opened : Unit {0}
@@ -103,6 +104,15 @@ pub recovery-length : Requirement3 pool staging ks → (r : Recovery) (s : State
     → length (recoveryList (view s) r) ≡ 9
 unfolding opened
 recovery-length c r s k run e = c .resumes r s k run e .count
+
+-- So the start and 21 steps end the commit; from a cut state the start, or the start and 9 steps, end a recovery.
+pub commit-calls : Requirement3 pool staging ks → EndsIn pool staging ks 22 (holding (txn live)) (state [])
+unfolding opened
+commit-calls r = r .commits (omega arith)
+
+pub recovery-calls : Requirement3 pool staging ks → (s : State) → Run pool staging ks cutOff s → EndsIn pool staging ks 1 cutOff s ⊎ EndsIn pool staging ks 10 cutOff s
+unfolding opened
+recovery-calls r s run = r .recovers s run
 
 -- All new has the joined run of 4 cells, all old the free run of 3.
 pub joined-cells : (s : State) → End pool staging ks s true → getD (view s) 4610 0 ≡ 4

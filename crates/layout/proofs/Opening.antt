@@ -1,17 +1,18 @@
 -- A pool opened, way out by way out; and what a caller knows of an opened pool. Assumes nothing.
 use Prim.Native.Nat.{ℕ, _≤_, _<_}
 use mathlib.Core.Path.{_≡_, refl, sym, ap, _∙_}
-use mathlib.Core.Bool.{Bool, true, false}
+use mathlib.Core.Bool.{Bool, true, false, not}
 use mathlib.Core.Option.{Option, none, some}
 use mathlib.Core.List.{List}
 use native.Mathlib.Omega.{arith}
 use lib.Dec.{eqb}
-use lib.ListN.{length}
+use lib.ListN.{length, take}
 use borrow.Author.Tests.{eq-eqb, eqb-true, le-ltb, lt-ltb, ne-eqb}
 use Rattle.rules.specs.Shape.{Shape as PoolShape, poolSize}
 use Rattle.rules.specs.Test.{first}
-use Rattle.rules.specs.Header.{differing, headerOk, headerShape, inRange, openTests, pageAt, same, shapeIn, validHeader}
+use Rattle.rules.specs.Header.{differing, headerOk, headerShape, inRange, letters, openTests, pageAt, same, shapeIn, validHeader}
 use Rattle.rules.proofs.Bool.{split}
+use Rattle.rules.proofs.Chain.{and-stop}
 use Rattle.rules.proofs.Shape.{Good as GoodShape}
 use Rattle.rules.proofs.Test.{Passed, first-passed, not-not, passed-first}
 use Rattle.rules.proofs.Header.{header-range, same-eq}
@@ -54,6 +55,14 @@ module _ (p : List ℕ) where
     pub open-none : a ≡ false → Refused 3 ≡ opened p
     unfolding opened openTests first answer
     open-none h = rw (le-ltb (length p) 512 l, ← e, ← copy-valid, h)
+
+  -- and the letters of the copy are others
+  pub open-letters : (x : Bool) → 512 ≤ length p → same (pageAt p 0) (pageAt p 256) ≡ true → x ≡ same (take 4 (pageAt p 256)) letters → not x ≡ true
+      → Refused 3 ≡ opened p
+  unfolding validHeader headerOk
+  open-letters x l d e h =
+      let k : false ≡ headerOk (pageAt p 256) = and-stop x _ _ h e in
+      open-none false l d (k ∙ ap headerOk (sym (same-eq (pageAt p 0) (pageAt p 256) d))) refl
 
   -- it does not
   module _ (a b : Bool) (l : 512 ≤ length p) (d : same (pageAt p 0) (pageAt p 256) ≡ false) (e : a ≡ validHeader p 0) (f : b ≡ validHeader p 256) where

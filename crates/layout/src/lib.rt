@@ -95,11 +95,14 @@ fn open_by(h: &[u8], n: usize) -> Opened
     Opened::Refused(2)
 }
 
-// A pool whose copy equals its header, so that the letters of both are judged with those of one (01): both are valid or neither, and 4 cannot be.
+// A pool whose copy equals its header: the letters are compared on both (01); the rest is judged once, since both are valid or neither, and 4 cannot be.
 fn open_one(pool: &[u8]) -> Opened
     requires { ⌜ (2 * pageSize ≤ length (now pool)) × (same (pageAt (now pool) 0) (pageAt (now pool) pageSize) ≡ true) ⌝ }
     ensures { λ r. ⌜ r ≡ opened (now (pool .entry)) ⌝ }
 {
+    if !header::letters_ok(&pool[256..512]) {
+        return Opened::Refused(3);
+    }
     if header::valid(&pool[0..256]) {
         return open_by(&pool[0..256], pool.len());
     }

@@ -24,16 +24,14 @@ use Rattle.layout.proofs.Range.{shape-good, size-bounds}
 
 -- ---- by the header page h, a pool of n bytes
 
-pub opened-by-good : (h : List ℕ) (n z : ℕ) (s : Shape) → s ≡ shapeFrom (headerShape h) → z ≡ poolSize (shapeOf s) → n ≡ z
-    → Good s ≡ openedBy h n
-unfolding openedBy answer first headerShape
-opened-by-good h n z s e f g = let k = eq-eqb n (poolSize (shapeOf (shapeFrom (headerShape h)))) (g ∙ f ∙ ap (λ (t : Shape). poolSize (shapeOf t)) e) in rw (e, k)
+module _ (h : List ℕ) (n z : ℕ) (s : Shape) (e : shapeOf s ≡ headerShape h) (f : z ≡ poolSize (shapeOf s)) where
+  pub opened-by-good : n ≡ z → Good s ≡ openedBy h n
+  unfolding openedBy answer first
+  opened-by-good g = rw (← e, eq-eqb n (poolSize (shapeOf s)) (g ∙ f))
 
-pub opened-by-refused : (h : List ℕ) (n z : ℕ) (s : Shape) → s ≡ shapeFrom (headerShape h) → z ≡ poolSize (shapeOf s) → (n ≡ z → ⊥)
-    → Refused 2 ≡ openedBy h n
-unfolding openedBy answer first headerShape
-opened-by-refused h n z s e f g =
-    let k = ne-eqb n (poolSize (shapeOf (shapeFrom (headerShape h)))) (λ q. g (q ∙ sym (f ∙ ap (λ (t : Shape). poolSize (shapeOf t)) e))) in rw k
+  pub opened-by-refused : (n ≡ z → ⊥) → Refused 2 ≡ openedBy h n
+  unfolding openedBy answer first
+  opened-by-refused g = rw (← e, ne-eqb n (poolSize (shapeOf s)) (λ q. g (q ∙ sym f)))
 
 -- ---- a pool
 

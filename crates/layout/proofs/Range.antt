@@ -1,17 +1,19 @@
 -- The code's shape: its length is that of 01 and fits, and a header's shape is in range. Assumes nothing.
 use Prim.Native.Nat.{ℕ, _+_, _*_, _≤_}
-use mathlib.Core.Path.{_≡_, refl}
+use mathlib.Core.Path.{_≡_, refl, sym, ap, _∙_}
 use mathlib.Core.Bool.{Bool, true, false}
 use mathlib.Core.List.{List}
 use native.Mathlib.Nat.{mul-le-mul, mul-le-mul-right}
 use native.Mathlib.Omega.{arith}
+use lib.ListN.{getD}
 use Rattle.rules.specs.Shape.{poolSize, zoneCells, zoneAt, shape}
 use Rattle.rules.specs.Header.{headerOk, headerShape, inRange}
+use Rattle.rules.proofs.Bool.{split}
 use Rattle.rules.proofs.Shape.{Good, zone-end}
 use Rattle.rules.proofs.Header.{header-range, range-good, range-ranged}
 use Rattle.layout.specs.declared.Shape.{Shape}
 use Rattle.layout.specs.declared.Made.the-variants.{Good as MadeGood, OutOfRange}
-use Rattle.layout.specs.Reading.{InRange, made, shapeFrom, shapeOf}
+use Rattle.layout.specs.Reading.{InRange, made, shapeOf}
 
 pub shape-good : (s : Shape) → InRange (shapeOf s) → Good (shapeOf s)
 shape-good s r = range-good (shapeOf s) refl r
@@ -71,8 +73,33 @@ pub made-bad : (r : Bool) (R C Z : ℕ) → r ≡ inRange (shape R C Z) → r �
 unfolding made
 made-bad r R C Z e h = rw (← e, h)
 
+pub made-out : (R C Z : ℕ) → made R C Z ≡ OutOfRange → inRange (shape R C Z) ≡ false
+unfolding made
+made-out R C Z e =
+    split (inRange (shape R C Z))
+    (λ t. absurd (let e′ : MadeGood (record { rows = R; cols = C; zones = Z }) ≡ OutOfRange = rw t at e in let z : _≡_ {A = ℕ} 0 1 = cc in omega arith))
+    (λ f. f)
+
+pub made-in : (R C Z : ℕ) (s : Shape) → made R C Z ≡ MadeGood s → (shapeOf s ≡ shape R C Z) × InRange (shapeOf s)
+unfolding made
+made-in R C Z s e =
+    split (inRange (shape R C Z))
+    (λ t.
+    let e′ : MadeGood (record { rows = R; cols = C; zones = Z }) ≡ MadeGood s = rw t at e in
+    let q : _≡_ {A = Shape} (record { rows = R; cols = C; zones = Z }) s = cc in
+    (sym (ap shapeOf q), rw (← q) t))
+    (λ f. absurd (let e′ : OutOfRange ≡ MadeGood s = rw f at e in let z : _≡_ {A = ℕ} 0 1 = cc in omega arith))
+
 -- ---- a header's shape
 
-pub shape-range : (h : List ℕ) (s : Shape) → s ≡ shapeFrom (headerShape h) → headerOk h ≡ true → InRange (shapeOf s)
-unfolding headerShape
-shape-range h s e ok = rw e (header-range h ok)
+module _ (h : List ℕ) (R C Z : ℕ) (e : R ≡ getD h 4 0) (f : C ≡ getD h 5 0) (g : Z ≡ getD h 6 0) where
+  bytes-shape : shape R C Z ≡ headerShape h
+  unfolding headerShape
+  bytes-shape = rw (e, f, g)
+
+  pub header-made : (s : Shape) → made R C Z ≡ MadeGood s → (shapeOf s ≡ headerShape h) × InRange (shapeOf s)
+  header-made s m = let k = made-in R C Z s m in (k .0 ∙ bytes-shape, k .1)
+
+  -- a valid header's is made
+  pub header-out : headerOk h ≡ true → made R C Z ≡ OutOfRange → ⊥
+  header-out ok m = let z : true ≡ false = sym (header-range h ok) ∙ ap inRange (sym bytes-shape) ∙ made-out R C Z m in let y : _≡_ {A = ℕ} 0 1 = cc in omega arith

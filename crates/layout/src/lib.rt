@@ -4,8 +4,8 @@ ghost use mathlib.Core.Bool.{true, false};
 ghost use Prim.Native.Nat.{_*_, _≤_, _<_};
 ghost use lib.ListN.{length};
 ghost use Rattle.rules.specs.Shape.{bodyLimit, entryLimit, pageSize, poolSize, stagingSize, zoneAt, zoneCells};
-ghost use Rattle.rules.specs.Header.{headerOk, headerShape, pageAt, same};
-ghost use Rattle.layout.specs.Reading.{InRange, made, opened, openedBy, shapeFrom, shapeOf};
+ghost use Rattle.rules.specs.Header.{headerOk, pageAt, same};
+ghost use Rattle.layout.specs.Reading.{InRange, made, opened, openedBy, shapeOf};
 
 pub struct Shape {
     pub rows: usize,
@@ -71,28 +71,20 @@ impl Shape {
     }
 }
 
-// The shape that a header page tells.
-pub fn header_shape(h: &[u8]) -> Shape
-    requires { ⌜ length (now h) ≡ pageSize ⌝ }
-    ensures { λ r. ⌜ r ≡ shapeFrom (headerShape (now (h .entry))) ⌝ }
-{
-    Shape {
-        rows: header::byte(h, 4),
-        cols: header::byte(h, 5),
-        zones: header::byte(h, 6),
-    }
-}
-
-// The shape that a valid header page tells, or refusal 2: `n` is not its length.
+// The shape that a valid header page tells, or refusal 2: `n` is not its length. A valid header's shape is never out of range.
 fn open_by(h: &[u8], n: usize) -> Opened
     requires { ⌜ (length (now h) ≡ pageSize) × (headerOk (now h) ≡ true) ⌝ }
     ensures { λ r. ⌜ r ≡ openedBy (now (h .entry)) n ⌝ }
 {
-    let s = header_shape(h);
-    if n == s.size() {
-        return Opened::Good(s);
+    match Shape::new(header::byte(h, 4), header::byte(h, 5), header::byte(h, 6)) {
+        Made::OutOfRange => Opened::Refused(3),
+        Made::Good(s) => {
+            if n == s.size() {
+                return Opened::Good(s);
+            }
+            Opened::Refused(2)
+        }
     }
-    Opened::Refused(2)
 }
 
 // A pool whose copy equals its header: the letters are compared on both (01); the rest is judged once, since both are valid or neither, and 4 cannot be.

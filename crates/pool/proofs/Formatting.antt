@@ -1,6 +1,6 @@
 -- The ways out of format. Assumes nothing.
 use Prim.Native.Nat.{ℕ, _≤_}
-use mathlib.Core.Path.{_≡_, refl, sym, ap, _∙_}
+use mathlib.Core.Path.{_≡_, refl, sym, _∙_}
 use mathlib.Core.Bool.{Bool, true, false, _||_}
 use mathlib.Core.List.{List}
 use native.Mathlib.Omega.{arith}
@@ -8,36 +8,16 @@ use lib.ListN.{length}
 use borrow.Author.Tests.{eq-eqb, ne-eqb, le-ltb}
 use Rattle.rules.specs.Shape.{poolSize, shape}
 use Rattle.rules.specs.Test.{first}
-use Rattle.rules.specs.Header.{inRange}
 use Rattle.rules.specs.Answer.{concludePool}
 use Rattle.rules.specs.Format.{formatTests, formatted, freshPool}
-use Rattle.rules.proofs.Bool.{split}
 use Rattle.rules.proofs.Header.{range-ranged}
 use Rattle.layout.specs.declared.Shape.{Shape}
 use Rattle.layout.specs.declared.Made.the-variants as Checked
 use Rattle.layout.specs.Reading.{InRange, made, shapeOf}
-use Rattle.layout.proofs.Range.{size-bounds}
+use Rattle.layout.proofs.Range.{made-in, made-out, size-bounds}
 use Rattle.pages.specs.Written.{HeaderFits}
 use Rattle.pool.specs.declared.Outcome.the-variants.{Done, Refused}
 use Rattle.pool.specs.Reading.{changed}
-
--- what the constructor's answers say
-made-out : (R C Z : ℕ) → made R C Z ≡ Checked.OutOfRange → inRange (shape R C Z) ≡ false
-unfolding made
-made-out R C Z e =
-    split (inRange (shape R C Z))
-    (λ t. absurd (let e′ : Checked.Good (record { rows = R; cols = C; zones = Z }) ≡ Checked.OutOfRange = rw t at e in let z : _≡_ {A = ℕ} 0 1 = cc in omega arith))
-    (λ f. f)
-
-pub made-in : (R C Z : ℕ) (s : Shape) → made R C Z ≡ Checked.Good s → (shapeOf s ≡ shape R C Z) × InRange (shapeOf s)
-unfolding made
-made-in R C Z s e =
-    split (inRange (shape R C Z))
-    (λ t.
-    let e′ : Checked.Good (record { rows = R; cols = C; zones = Z }) ≡ Checked.Good s = rw t at e in
-    let q : _≡_ {A = Shape} (record { rows = R; cols = C; zones = Z }) s = cc in
-    (sym (ap shapeOf q), rw (← q) t))
-    (λ f. absurd (let e′ : Checked.OutOfRange ≡ Checked.Good s = rw f at e in let z : _≡_ {A = ℕ} 0 1 = cc in omega arith))
 
 or-true : (b : Bool) → (b || true) ≡ true
 or-true true = refl

@@ -1,6 +1,7 @@
 -- `pool::format` meets its contract. Assumes nothing.
 use mathlib.Core.Path.{sym, _∙_}
-use Rattle.pool.proofs.Formatting.{format-done, format-id, format-length, format-range, made-in}
+use Rattle.layout.proofs.Range.{made-in}
+use Rattle.pool.proofs.Formatting.{format-done, format-id, format-length, format-range}
 use borrow.Author.Needs.{needs}
 use Rattle.pool.proofs.format.Statement.{statement}
 use Rattle.pool.proofs.format.Tie as tie

@@ -6,14 +6,15 @@ use mathlib.Core.List.{List}
 use native.Mathlib.Nat.{mul-le-mul, mul-le-mul-right}
 use native.Mathlib.Omega.{arith}
 use lib.ListN.{getD}
-use Rattle.rules.specs.Shape.{poolSize, zoneCells, zoneAt, shape}
+use Rattle.rules.specs.Shape.{Shape as PoolShape, poolSize, zoneCells, zoneAt, shape}
 use Rattle.rules.specs.Header.{headerOk, headerShape, inRange}
 use Rattle.rules.proofs.Bool.{split}
 use Rattle.rules.proofs.Shape.{Good, zone-end}
 use Rattle.rules.proofs.Header.{header-range, range-good, range-ranged}
 use Rattle.layout.specs.declared.Shape.{Shape}
+use Rattle.layout.specs.declared.Made.{Made}
 use Rattle.layout.specs.declared.Made.the-variants.{Good as MadeGood, OutOfRange}
-use Rattle.layout.specs.Reading.{InRange, made, shapeOf}
+use Rattle.layout.specs.Reading.{InRange, checked, good, madeOf, refused, shapeOf}
 
 pub shape-good : (s : Shape) → InRange (shapeOf s) → Good (shapeOf s)
 shape-good s r = range-good (shapeOf s) refl r
@@ -64,42 +65,43 @@ zone-at-le s r z h = let e = zone-end (shapeOf s) (shape-good s r) in let m = mu
 
 -- ---- the constructor
 
-pub made-good : (r : Bool) (R C Z : ℕ) → r ≡ inRange (shape R C Z) → r ≡ true
-    → MadeGood (record { rows = R; cols = C; zones = Z }) ≡ made R C Z
-unfolding made
-made-good r R C Z e h = rw (← e, h)
+module _ (b : Bool) (R C Z : ℕ) (e : b ≡ inRange (shape R C Z)) where
+  pub new-good : b ≡ true → madeOf (MadeGood (record { rows = R; cols = C; zones = Z })) ≡ checked (shape R C Z)
+  unfolding checked
+  new-good h = rw (← e, h)
 
-pub made-bad : (r : Bool) (R C Z : ℕ) → r ≡ inRange (shape R C Z) → r ≡ false → OutOfRange ≡ made R C Z
-unfolding made
-made-bad r R C Z e h = rw (← e, h)
+  pub new-out : b ≡ false → madeOf OutOfRange ≡ checked (shape R C Z)
+  unfolding checked
+  new-out h = rw (← e, h)
 
-pub made-out : (R C Z : ℕ) → made R C Z ≡ OutOfRange → inRange (shape R C Z) ≡ false
-unfolding made
-made-out R C Z e =
-    split (inRange (shape R C Z))
-    (λ t. absurd (let e′ : MadeGood (record { rows = R; cols = C; zones = Z }) ≡ OutOfRange = rw t at e in let z : _≡_ {A = ℕ} 0 1 = cc in omega arith))
-    (λ f. f)
+-- what its answers say
+module _ (r : Made) (sh : PoolShape) (e : madeOf r ≡ checked sh) where
+  pub made-good : (s : Shape) → r ≡ MadeGood s → (shapeOf s ≡ sh) × InRange (shapeOf s)
+  unfolding checked
+  made-good s h =
+      let k : good (shapeOf s) ≡ checked sh = sym (ap madeOf h) ∙ e in
+      split (inRange sh)
+      (λ t. let q : good (shapeOf s) ≡ good sh = rw t at k in let m : shapeOf s ≡ sh = cc in (m, ap inRange m ∙ t))
+      (λ f. absurd (let q : good (shapeOf s) ≡ refused 1 = rw f at k in let z : _≡_ {A = ℕ} 0 1 = cc in omega arith))
 
-pub made-in : (R C Z : ℕ) (s : Shape) → made R C Z ≡ MadeGood s → (shapeOf s ≡ shape R C Z) × InRange (shapeOf s)
-unfolding made
-made-in R C Z s e =
-    split (inRange (shape R C Z))
-    (λ t.
-    let e′ : MadeGood (record { rows = R; cols = C; zones = Z }) ≡ MadeGood s = rw t at e in
-    let q : _≡_ {A = Shape} (record { rows = R; cols = C; zones = Z }) s = cc in
-    (sym (ap shapeOf q), rw (← q) t))
-    (λ f. absurd (let e′ : OutOfRange ≡ MadeGood s = rw f at e in let z : _≡_ {A = ℕ} 0 1 = cc in omega arith))
+  pub made-out : r ≡ OutOfRange → inRange sh ≡ false
+  unfolding checked
+  made-out h =
+      let k : refused 1 ≡ checked sh = sym (ap madeOf h) ∙ e in
+      split (inRange sh) (λ t. absurd (let q : refused 1 ≡ good sh = rw t at k in let z : _≡_ {A = ℕ} 0 1 = cc in omega arith)) (λ f. f)
 
 -- ---- a header's shape
 
-module _ (h : List ℕ) (R C Z : ℕ) (e : R ≡ getD h 4 0) (f : C ≡ getD h 5 0) (g : Z ≡ getD h 6 0) where
-  bytes-shape : shape R C Z ≡ headerShape h
+module _ (h : List ℕ) (R C Z : ℕ) (r : Made) (e : R ≡ getD h 4 0) (f : C ≡ getD h 5 0) (g : Z ≡ getD h 6 0) (m : madeOf r ≡ checked (shape R C Z)) where
+  header-checked : madeOf r ≡ checked (headerShape h)
   unfolding headerShape
-  bytes-shape = rw (e, f, g)
+  header-checked = m ∙ rw (e, f, g)
 
-  pub header-made : (s : Shape) → made R C Z ≡ MadeGood s → (shapeOf s ≡ headerShape h) × InRange (shapeOf s)
-  header-made s m = let k = made-in R C Z s m in (k .0 ∙ bytes-shape, k .1)
+  pub header-made : (s : Shape) → r ≡ MadeGood s → (shapeOf s ≡ headerShape h) × InRange (shapeOf s)
+  header-made s q = made-good r (headerShape h) header-checked s q
 
   -- a valid header's is made
-  pub header-out : headerOk h ≡ true → made R C Z ≡ OutOfRange → ⊥
-  header-out ok m = let z : true ≡ false = sym (header-range h ok) ∙ ap inRange (sym bytes-shape) ∙ made-out R C Z m in let y : _≡_ {A = ℕ} 0 1 = cc in omega arith
+  pub header-out : headerOk h ≡ true → r ≡ OutOfRange → ⊥
+  header-out ok q =
+      let z : true ≡ false = sym (header-range h ok) ∙ made-out r (headerShape h) header-checked q in
+      let y : _≡_ {A = ℕ} 0 1 = cc in omega arith

@@ -3,9 +3,9 @@ ghost use mathlib.Core.Path.{_≡_};
 ghost use mathlib.Core.Bool.{true, false};
 ghost use Prim.Native.Nat.{_*_, _≤_, _<_};
 ghost use lib.ListN.{length};
-ghost use Rattle.rules.specs.Shape.{bodyLimit, entryLimit, pageSize, poolSize, stagingSize, zoneAt, zoneCells};
+ghost use Rattle.rules.specs.Shape.{bodyLimit, entryLimit, pageSize, poolSize, shape, stagingSize, zoneAt, zoneCells};
 ghost use Rattle.rules.specs.Header.{headerOk, pageAt, same};
-ghost use Rattle.layout.specs.Reading.{InRange, made, opened, openedBy, shapeOf};
+ghost use Rattle.layout.specs.Reading.{InRange, checked, madeOf, opened, openedBy, shapeOf};
 
 pub struct Shape {
     pub rows: usize,
@@ -13,7 +13,7 @@ pub struct Shape {
     pub zones: usize,
 }
 
-// A checked shape.
+// A checked shape, or refusal 1.
 pub enum Made {
     Good(Shape),
     OutOfRange,
@@ -35,9 +35,9 @@ impl Shape {
     // Bytes of staging memory, at least.
     pub const STAGING: usize = 2032;
 
-    // The shape with these numbers, if each is in its range. The second clause ties the constants to 01's limits.
+    // The shape with these numbers, or refusal 1: one is not in its range. The second clause ties the constants to 01's limits.
     pub fn new(rows: usize, cols: usize, zones: usize) -> Made
-        ensures { λ r. ⌜ r ≡ made rows cols zones ⌝ }
+        ensures { λ r. ⌜ madeOf r ≡ checked (shape rows cols zones) ⌝ }
         ensures limits { λ r. do ⌜ ((← ⟦Shape::PAGE⟧ .entry) ≡ pageSize) × ((← ⟦Shape::ENTRIES⟧ .entry) ≡ entryLimit) × ((← ⟦Shape::BODY⟧ .entry) ≡ bodyLimit) × ((← ⟦Shape::STAGING⟧ .entry) ≡ stagingSize) ⌝ }
     {
         if header::in_range(rows, cols, zones) {

@@ -1,5 +1,5 @@
 -- `layout::open_by` meets its contract. Assumes nothing.
-use mathlib.Core.Path.{_≡_, sym, _∙_}
+use mathlib.Core.Path.{_≡_}
 use Rattle.rules.specs.Header.{headerShape}
 use Rattle.layout.specs.Reading.{InRange, shapeOf}
 use Rattle.layout.proofs.Range.{header-made, header-out}
@@ -30,7 +30,7 @@ enum-known-s c = search needs
 of-header : (c : tie.After-known-told) → (shapeOf (c .before .s .given .0 .0) ≡ headerShape (c .before .before .before .before .before .before .before .before .args .h .now)) × InRange (shapeOf (c .before .s .given .0 .0))
 of-header c =
     let b = c .before .before .before .before in
-    header-made _ _ _ _ (b .before .before .byte .ensures .0) (b .before .byte2 .ensures .0) (b .byte3 .ensures .0) _ (sym (c .before .before .before .new .ensures .0) ∙ c .before .s .given .1)
+    header-made _ _ _ _ (c .before .before .before .new .result) (b .before .before .byte .ensures .0) (b .before .byte2 .ensures .0) (b .byte3 .ensures .0) (c .before .before .before .new .ensures .0) _ (c .before .s .given .1)
 
 size-requires : tie.Need-size-requires
 size-requires c κs = of-header c .1
@@ -41,7 +41,7 @@ returns c = opened-by-good _ _ _ _ (of-header (c .before .before) .0) (c .before
 returns-2 : tie.Need-returns-2
 returns-2 c =
     let b = c .before .before .before in
-    absurd (header-out _ _ _ _ (b .before .before .byte .ensures .0) (b .before .byte2 .ensures .0) (b .byte3 .ensures .0) (b .before .before .before .before .pre .1) (sym (c .before .before .new .ensures .0) ∙ c .enum-told .given .1))
+    absurd (header-out _ _ _ _ (c .before .before .new .result) (b .before .before .byte .ensures .0) (b .before .byte2 .ensures .0) (b .byte3 .ensures .0) (c .before .before .new .ensures .0) (b .before .before .before .before .pre .1) (c .enum-told .given .1))
 
 returns-3 : tie.Need-returns-3
 returns-3 c = opened-by-refused _ _ _ _ (of-header (c .before .before) .0) (c .before .size .ensures) (c .if1 .left)

@@ -21,7 +21,7 @@ use Rattle.rules.specs.Scrub.{wrongColumns}
 use Rattle.rules.specs.Scan.{columnsLine, concludeScan, decimal, decimalTo, poolLine, poolText, poolscan, quality, runLine, runText, scanTests, zoneLines, zonesText}
 use Rattle.rules.proofs.Header.{range-good}
 use Rattle.rules.proofs.Scrub.{parity-scrub}
-use Rattle.rules.proofs.Examples.{bench}
+use Rattle.rules.proofs.Examples.{bench, firstRow, front, objectPool}
 
 -- ---- parity of R 2, C 2, Z 1 where the second row is zero and the parity row repeats the first
 
@@ -47,16 +47,6 @@ repeated-parity front d hf hd zero o hz ho =
 repeated-parity front d hf hd (suc z) o hz ho = absurd (omega arith)
 
 -- ---- the pool
-
-unfoldable pub front : List ℕ
-front = headerBytes bench 1 ++ (headerBytes bench 1 ++ replicate 4096 0)
-
--- The tag 5 object in cell 0, then 15 free cells.
-unfoldable pub firstRow : List ℕ
-firstRow = objectBytes 5 (ascii "a") ++ (freeHead 15 ++ replicate 432 0)
-
-unfoldable pub objectPool : List ℕ
-objectPool = front ++ (firstRow ++ (replicate 512 0 ++ firstRow))
 
 length-front : length front ≡ 4608
 unfolding front headerBytes headerFront digits check low high reduced

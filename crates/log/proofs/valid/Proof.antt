@@ -1,5 +1,6 @@
 -- `log::valid` meets its contract. Assumes nothing.
 use Rattle.log.proofs.Logs.{valid-check, valid-high, valid-low, valid-mark, valid-rest}
+use native.Mathlib.Omega.{arith}
 use borrow.Author.Needs.{needs}
 use Rattle.log.proofs.valid.Statement.{statement}
 use Rattle.log.proofs.valid.Tie as tie
@@ -14,22 +15,22 @@ returns : tie.Need-returns
 returns c = search (needs, valid-mark)
 
 returns-2 : tie.Need-returns-2
-returns-2 c = search (needs, valid-low)
+returns-2 c = valid-low _ _ _ _ _ (c .before .before .before .load64 .ensures) (c .before .before .count .ensures .0) (c .before .if1 .left) (omega (arith, c .if2 .taken))
 
 returns-3 : tie.Need-returns-3
-returns-3 c = search (needs, valid-high)
+returns-3 c = valid-high _ _ _ _ _ (c .before .before .before .before .load64 .ensures) (c .before .before .before .count .ensures .0) (c .before .before .if1 .left) (omega (arith, c .before .if2 .left, c .if3 .taken)) (omega (arith, c .if3 .taken))
 
 add-check-entries : tie.Need-add-check-entries
 add-check-entries c = search needs
 
 check-entries-requires : tie.Need-check-entries-requires
-check-entries-requires c κs = search needs
+check-entries-requires c κs = omega (arith, c .if3 .left, c .before .before .before .before .before .before .pre .1)
 
 cast-if4 : tie.Need-cast-if4
 cast-if4 c = search needs
 
 returns-4 : tie.Need-returns-4
-returns-4 c = search (needs, valid-check)
+returns-4 c = valid-check _ _ _ _ _ (c .before .before .before .before .before .before .load64 .ensures) (c .before .before .before .before .before .count .ensures .0) (c .before .before .before .before .if1 .left) _ (omega (arith, c .before .before .before .if2 .left)) (omega (arith, c .before .before .if3 .left)) (c .before .check-entries .ensures .0) (c .if4 .taken)
 
 add-targets-fit : tie.Need-add-targets-fit
 add-targets-fit c = search needs
@@ -38,7 +39,7 @@ targets-fit-requires : tie.Need-targets-fit-requires
 targets-fit-requires c κs = search needs
 
 returns-5 : tie.Need-returns-5
-returns-5 c = search (needs, valid-rest)
+returns-5 c = valid-rest _ _ _ _ _ (c .before .before .before .before .before .before .before .load64 .ensures) (c .before .before .before .before .before .before .count .ensures .0) (c .before .before .before .before .before .if1 .left) _ _ (omega (arith, c .before .before .before .before .if2 .left)) (omega (arith, c .before .before .before .if3 .left)) (c .before .before .check-entries .ensures .0) (c .before .if4 .left) (c .targets-fit .ensures)
 
 pub valid-spec : {M : Type 1} → statement M
 valid-spec =

@@ -10,7 +10,7 @@ returns : tie.Need-returns
 returns c = let s = c .before .before .args in impossible-many (shapeOf (s .s)) _ _ (s .phase) (omega (arith, c .if1 .taken))
 
 past-requires : tie.Need-past-requires
-past-requires c κs = search needs
+past-requires c κs = omega (arith, c .if1 .left)
 
 returns-2 : tie.Need-returns-2
 returns-2 c = let s = c .before .before .before .before .args in impossible-past (shapeOf (s .s)) _ _ (s .phase) (c .before .before .if1 .left) (c .before .past .ensures) (c .if2 .taken)

@@ -1,11 +1,12 @@
 -- `recovery::replay_step` meets its contract. Assumes nothing.
 use Rattle.recovery.proofs.Stepping.{replay-lost, replay-made, replay-many, replay-past, replay-ready}
+use native.Mathlib.Omega.{arith}
 use borrow.Author.Needs.{needs}
 use Rattle.recovery.proofs.replay_step.Statement.{statement}
 use Rattle.recovery.proofs.replay_step.Tie as tie
 
 returns : tie.Need-returns
-returns c = λ l q. search (needs, replay-many)
+returns c = λ l q. replay-many _ _ _ _ _ l q (omega (arith, c .if1 .taken))
 
 mul-if2 : tie.Need-mul-if2
 mul-if2 c = search needs
@@ -17,7 +18,7 @@ returns-2 : tie.Need-returns-2
 returns-2 c = λ l q. search (needs, replay-past)
 
 lost-requires : tie.Need-lost-requires
-lost-requires c κs = search needs
+lost-requires c κs = (c .before .before .before .pre .0, c .before .before .before .pre .1, omega (arith, c .before .if1 .left))
 
 returns-3 : tie.Need-returns-3
 returns-3 c = λ l q. search (needs, replay-lost)

@@ -21,7 +21,7 @@ same-length c = search needs
 
 returns : tie.Need-returns
 unfolding refusedText
-returns c = scan-put _ (c .before .before .put-between .ensures) (scan-long _ (c .before .before .before .before .before .before .if1 .taken)) (omega arith)
+returns c = scan-put _ (c .before .before .put-between .ensures) (scan-long _ (omega (arith, c .before .before .before .before .before .before .if1 .taken))) (omega arith)
 
 quiet-requires : tie.Need-quiet-requires
 quiet-requires c κs = search needs

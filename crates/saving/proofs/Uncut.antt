@@ -60,11 +60,11 @@ step-staging : (g : Given) → Accepted (commitStep g .answer) → commitStep g 
 unfolding commitStep
 step-staging g f = ap (λ (x : After). x .left .staging) (concluded g _ _ f)
 
-answer-last : (k n : ℕ) (x : Step) → eqb (suc k) n ≡ true → stepAnswer k n x ≡ done n
+pub answer-last : (k n : ℕ) (x : Step) → eqb (suc k) n ≡ true → stepAnswer k n x ≡ done n
 unfolding stepAnswer
 answer-last k n x e = rw e
 
-answer-on : (k n : ℕ) (x : Step) → eqb (suc k) n ≡ false → isEnd (stepAnswer k n x) ≡ false
+pub answer-on : (k n : ℕ) (x : Step) → eqb (suc k) n ≡ false → isEnd (stepAnswer k n x) ≡ false
 unfolding stepAnswer isEnd isDone isRefused madeAnswer
 answer-on k n x e = rw e (on x)
   where

@@ -10,7 +10,7 @@ use lib.Dec.{eqb}
 use lib.ListN.{length}
 use borrow.Author.Tests.{eqb-false}
 use Rattle.rules.specs.Header.{shapeIn}
-use Rattle.rules.specs.Answer.{Answer, isRefused}
+use Rattle.rules.specs.Answer.{isRefused}
 use Rattle.rules.specs.Plan.{Call}
 use Rattle.rules.specs.Calls.{AllTyped}
 use Rattle.rules.specs.Sound.{Sound}
@@ -22,11 +22,12 @@ use Rattle.powercut.specs.Recovery.{Recovery, RecoveryAfter, concludeRecovery, 
 use Rattle.powercut.specs.WholeRun.{Accepted, Makes, Run, cutOff, entries, resuming}
 use Rattle.powercut.specs.Claim.{End}
 use Rattle.powercut.proofs.StepPool.{reached-act}
-use Rattle.powercut.proofs.RunMatches.{Input, again-inside, again-left, again-none, done-is, recover-none}
+use Rattle.powercut.proofs.RunMatches.{again-inside, again-left, again-none, done-is, recover-none}
 use Rattle.powercut.proofs.PowerCut.{power-cut, progress-end, progress-on, restarted}
 use Rattle.powercut.proofs.Refusals.{recovery-start-pool}
 use Rattle.saving.specs.Saving.{isDone, isEnd}
 use Rattle.saving.specs.Recovering.{AfterCut, Recovers, recoveredFor, recoveryFrom}
+use Rattle.saving.proofs.Saving.{done-ends, refused-ends}
 use Rattle.saving.proofs.Uncut.{answer-last, answer-on}
 
 -- ---- step after step
@@ -41,14 +42,6 @@ recovery-stays (suc n) x h = rw h
 recovery-next : (n : ℕ) (x : RecoveryAfter) → isEnd (x .answer) ≡ false → recoveryFrom (suc n) x ≡ recoveryFrom n (recoveryStep (x .pool) (x .recovery))
 unfolding recoveryFrom
 recovery-next n x h = rw h
-
-done-ends : (a : Answer) → isDone a ≡ true → isEnd a ≡ true
-unfolding isEnd
-done-ends a h = rw h
-
-refused-ends : (a : Answer) → isRefused a ≡ true → isEnd a ≡ true
-unfolding isEnd
-refused-ends a h = split (isDone a) (λ e. rw e) (λ e. rw (e, h))
 
 -- k steps are made, and more follow
 record Going (k : ℕ) (x : RecoveryAfter) : Type 0 where

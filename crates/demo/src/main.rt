@@ -57,7 +57,7 @@ fn is_clean(pool: &[u8], n: usize) -> bool {
 
 // Recovers the pool that a cut left, and counts what is found: no object at cell 0, or the one that was saved, whole.
 fn judge(cut: &mut [u8], t: Tally) -> Tally {
-    let done = is_done(driver::recover(cut));
+    let done = is_done(saving::recover(cut).answer);
     let old = pool::look_refusal(cut, 0) == 24;
     let new = check::same(pool::look(cut, 0), &BODY);
     let clean = is_clean(cut, if new { 1 } else { 0 });

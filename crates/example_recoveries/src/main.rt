@@ -1,7 +1,6 @@
 // A commit cut and recovered in the pool R 2, C 2, Z 1: the bench example of document 01 on a cut with only seal A stored, and what a recovery
 // refuses. What is printed is compared with the stored values in `stdout`, which were worked out apart from this code.
 use calls::look;
-use driver::recover;
 use recovery::Recovery;
 use report::answer;
 use transaction::Transaction;
@@ -26,20 +25,27 @@ fn cuts(p: &mut [u8], s: &mut [u8]) {
     look(p);
 }
 
+// Recovers the pool, and says the last answer.
+fn recover(name: &[u8], p: &mut [u8]) {
+    let r = saving::recover(p);
+    let a = r.answer;
+    answer(name, a);
+}
+
 fn recovers(p: &mut [u8]) {
-    answer(b"  recovery: ", recover(p));
+    recover(b"  recovery: ", p);
     report::check(b"  check of that pool: ", p, 6144);
     look(p);
-    answer(b"  recovery of that pool: ", recover(p));
+    recover(b"  recovery of that pool: ", p);
 }
 
 // Neither log is valid: both seals set, then one.
 fn seals(p: &mut [u8]) {
     set(p, 512, 1);
     set(p, 2560, 1);
-    answer(b"recovery with both seals set: ", recover(p));
+    recover(b"recovery with both seals set: ", p);
     set(p, 2560, 0);
-    answer(b"recovery with one set: ", recover(p));
+    recover(b"recovery with one set: ", p);
 }
 
 fn finished(p: &mut [u8]) {
@@ -53,7 +59,7 @@ fn finished(p: &mut [u8]) {
 fn headers(p: &mut [u8]) {
     set(p, 0, 0);
     set(p, 256, 0);
-    answer(b"recovery without a header: ", recover(p));
+    recover(b"recovery without a header: ", p);
 }
 
 fn main() {

@@ -2,13 +2,13 @@
 -- comes to a place of its list. Assumes nothing.
 use Prim.Native.Nat.{ℕ, zero, suc, _≤_, _<_}
 use mathlib.Core.Path.{_≡_, refl}
-use mathlib.Core.Bool.{true, false, not, _&&_, _||_}
+use mathlib.Core.Bool.{false, _&&_, _||_}
 use mathlib.Core.Option.{Option, none, some}
 use mathlib.Core.List.{List}
 use native.Mathlib.Omega.{arith}
 use lib.Dec.{eqb, ltb}
 use lib.ListN.{length}
-use borrow.Author.Tests.{leb-false, ltb-false, ltb-true}
+use borrow.Author.Tests.{leb-false, ltb-false}
 use Rattle.rules.specs.Words.{word}
 use Rattle.rules.specs.Shape.{Shape, entryLimit, logA, logB}
 use Rattle.rules.specs.Header.{openTests, shapeIn}
@@ -17,12 +17,12 @@ use Rattle.rules.specs.Answer.{After, Given, conclude}
 use Rattle.rules.specs.Plan.{Call}
 use Rattle.rules.specs.Calls.{call, recordTests, staged}
 use Rattle.rules.proofs.Bool.{or-false, split}
-use Rattle.rules.proofs.Test.{first-passed, not-not, passed-left, passed-right}
+use Rattle.rules.proofs.Test.{first-passed, passed-left, passed-right}
 use Rattle.powercut.specs.Log.{countIn, valid}
-use Rattle.powercut.specs.Steps.{Remedy, clear, neither, nothing, recoverySteps, remedy, replay}
+use Rattle.powercut.specs.Steps.{Remedy, clear, neither, nothing, remedy, replay}
 use Rattle.powercut.specs.Commit.{commitList, commitStart, commitStep, commitTests, nextPhase, placeIn, startPhase}
-use Rattle.powercut.specs.Recovery.{Recovery, RecoveryAfter, concludeRecovery, countAbove, doneSteps, impossibleRecovery, isRecovering, logLost, nextProgress, recoveryList, recoveryStart, recoveryStep, recoveryTests, startRecovery}
-use Rattle.powercut.proofs.StepCount.{clear-count, replay-count}
+use Rattle.powercut.specs.Recovery.{Recovery, RecoveryAfter, concludeRecovery, doneSteps, nextProgress, recoveryList, recoveryStart, recoveryStep, startRecovery}
+use Rattle.powercut.proofs.RunMatches.{again-inside}
 use Rattle.pool_c.specs.Reading.{Fits64, phaseOut, progressOut, workOut}
 
 -- ---- a transaction
@@ -109,31 +109,12 @@ pub recovery-start-fits : (p : List ℕ) → Fits (recoveryStart p .recovery)
 unfolding recoveryStart
 recovery-start-fits p = conclude-recovery-fits p _ _ _ (omega arith, omega arith) (λ e. begun-fits p _ (remedy-fits (shapeIn p) p))
 
-list-few : (sh : Shape) (p : List ℕ) (w : Remedy) → countAbove w ≡ false → length (recoverySteps sh p w) ≤ 259
-unfolding countAbove
-list-few sh p (replay l n) e = rw (replay-count sh p l n) (let a = ltb-false entryLimit n e in omega arith)
-list-few sh p clear e = rw (clear-count sh p) (omega arith)
-list-few sh p nothing e = unfold recoverySteps in omega arith
-list-few sh p neither e = unfold recoverySteps in omega arith
-
 next-progress-fits : (k n : ℕ) → k < 259 → Fits64 (progressOut (nextProgress k n))
 unfolding nextProgress
 next-progress-fits k n l = split (eqb (suc k) n) (λ e. rw e (omega arith)) (λ e. rw e (omega arith))
 
-done-few : (sh : Shape) (p : List ℕ) (r : Recovery) → impossibleRecovery sh p r ≡ false → isRecovering (r .phase) ≡ true → doneSteps (r .phase) < 259
-unfolding impossibleRecovery
-done-few sh p r e i =
-    let k : ℕ = doneSteps (r .phase) in
-    let xs : ℕ = length (recoverySteps sh p (r .work)) in
-    let a = or-false (countAbove (r .work)) _ e in
-    let b : (true && (not (ltb k xs) || logLost sh p (r .work) k)) ≡ false = rw i at (a .1) in
-    let c = or-false (not (ltb k xs)) (logLost sh p (r .work) k) b in
-    let d = ltb-true k xs (not-not (ltb k xs) (c .0)) in
-    let m = list-few sh p (r .work) (a .0) in
-    omega arith
-
 pub recovery-step-fits : (p : List ℕ) (r : Recovery) → Fits r → Fits (recoveryStep p r .recovery)
-unfolding recoveryStep recoveryTests
+unfolding recoveryStep
 recovery-step-fits p r h = conclude-recovery-fits p r _ _ h (λ e.
-    let q = passed-right (openTests p) _ (first-passed _ e) in
-    (h .0, next-progress-fits (doneSteps (r .phase)) (length (recoveryList p r)) (done-few (shapeIn p) p r (q .0) (not-not (isRecovering (r .phase)) (q .1 .0)))))
+    let i = again-inside p r e in
+    (h .0, next-progress-fits (doneSteps (r .phase)) (length (recoveryList p r)) (omega arith)))

@@ -1,6 +1,6 @@
 -- REQUIREMENT 3, proved: `power-cut`. Assumes nothing.
 use mathlib.Core.Path.{_≡_, refl, sym, ap, ap₂, _∙_, subst}
-use mathlib.Core.Logic.{_≢_, _⊎_, inl, inr}
+use mathlib.Core.Logic.{_≢_, _⊎_, inl, inr, ⊎-elim}
 use mathlib.Core.Bool.{Bool, true, false, not, _&&_}
 use mathlib.Core.Option.{none}
 use mathlib.Core.List.{List, [], _∷_, _++_}
@@ -114,11 +114,11 @@ again-passed p r k o e a i d =
     passed-join (openTests p) _ o (rw (a, e, lt-ltb k (length (recoverySteps (shapeIn p) p (r .work))) i, d), (rw e, tt))
 
 -- the phase after a step
-progress-end : (k n : ℕ) → eqb (suc k) n ≡ true → nextProgress k n ≡ finished
+pub progress-end : (k n : ℕ) → eqb (suc k) n ≡ true → nextProgress k n ≡ finished
 unfolding nextProgress
 progress-end k n e = rw (e, nextProgress)
 
-progress-on : (k n : ℕ) → eqb (suc k) n ≡ false → nextProgress k n ≡ recovering (suc k)
+pub progress-on : (k n : ℕ) → eqb (suc k) n ≡ false → nextProgress k n ≡ recovering (suc k)
 unfolding nextProgress
 progress-on k n e = rw (e, nextProgress)
 
@@ -265,18 +265,31 @@ module _ (inp : Input) where
       tests-passed c p = unfold commitTests isCommitting placeIn in
           (passed-join (recordTests (met s t)) _ p (rw e, (rw e (first-sealed k (c .2)), tt)))
 
+  -- a recovery that has steps follows a seal that has reached memory
+  pub restarted : (s : State) → Run pool staging ks cutOff s
+      → Accepted (recoveryStart (view s) .answer)
+      × ((recoveryStart (view s) .recovery .phase ≡ finished) ⊎ ((recoveryStart (view s) .recovery .phase ≡ recovering 0) × (s .reached ≡ true)))
+  restarted s r =
+      let c = run-matches inp r in
+      let x : remedy sh (view s) ≡ remedy (shapeIn (view s)) (view s) = ap (λ (x : Shape). remedy x (view s)) (sym (shape-is inp c)) in
+      let a = accepted-recovery (view s) (opens inp c) (λ e. claim inp .never-refused s c (x ∙ e)) in (
+        a .0,
+        subst (λ (x : Recovery). (x .phase ≡ finished) ⊎ ((x .phase ≡ recovering 0) × (s .reached ≡ true))) (sym (a .1))
+            (⊎-elim (λ e. inl (over (sym x ∙ e))) (phases (remedy (shapeIn (view s)) (view s))) (claim inp .sealed s c)),
+      )
+    where
+      over : {q : Remedy} → q ≡ nothing → startRecovery (view s) q .recovery .phase ≡ finished
+      over e = unfold startRecovery in (ap (λ (q : Remedy). startRecovery (view s) q .recovery .phase) e)
+
+      phases : (q : Remedy) → s .reached ≡ true → (startRecovery (view s) q .recovery .phase ≡ finished) ⊎ ((startRecovery (view s) q .recovery .phase ≡ recovering 0) × (s .reached ≡ true))
+      phases (replay l n) h = inr (unfold startRecovery in refl, h)
+      phases clear h = inr (unfold startRecovery in refl, h)
+      phases nothing h = inl (unfold startRecovery in refl)
+      phases neither h = inl (unfold startRecovery in refl)
+
   restarts : (s : State) → Run pool staging ks cutOff s
       → Accepted (recoveryStart (view s) .answer) × ((recoveryStart (view s) .recovery .phase ≡ finished) ⊎ (recoveryStart (view s) .recovery .phase ≡ recovering 0))
-  restarts s r =
-      let c = run-matches inp r in
-      let a = accepted-recovery (view s) (opens inp c) (λ e. claim inp .never-refused s c (ap (λ (x : Shape). remedy x (view s)) (sym (shape-is inp c)) ∙ e)) in
-      (a .0, subst (λ (x : Recovery). (x .phase ≡ finished) ⊎ (x .phase ≡ recovering 0)) (sym (a .1)) (phases (remedy (shapeIn (view s)) (view s))))
-    where
-      phases : (q : Remedy) → (startRecovery (view s) q .recovery .phase ≡ finished) ⊎ (startRecovery (view s) q .recovery .phase ≡ recovering 0)
-      phases (replay l n) = inr (unfold startRecovery in refl)
-      phases clear = inr (unfold startRecovery in refl)
-      phases nothing = inl (unfold startRecovery in refl)
-      phases neither = inl (unfold startRecovery in refl)
+  restarts s r = let i = restarted s r in (i .0, ⊎-elim inl (λ h. inr (h .0)) (i .1))
 
   resumes : (r : Recovery) (s : State) (k : ℕ) → Run pool staging ks (resuming r) s → r .phase ≡ recovering k
       → StepTaken pool staging ks (recoveryStep (view s) r .answer) (recoveryStep (view s) r .pool) s (recoveryNext (view s) r) k (recoveryList (view s) r) (2 * length es + 5)

@@ -1,15 +1,15 @@
 -- Every run of specs/WholeRun is a run by step numbers (`run-matches`): each answer that is no refusal makes exactly the step that the list
 -- has next, and at every moment the pool opens with the shape of the start. Of a sound pool and typed calls (`Input`). Assumes nothing else.
 use mathlib.Core.Path.{_≡_, refl, sym, ap, ap₂, _∙_, subst}
-use mathlib.Core.Bool.{true, false}
+use mathlib.Core.Bool.{true, false, not, _&&_, _||_}
 use mathlib.Core.Option.{Option, none, some}
 use mathlib.Core.List.{List, [], _∷_, _++_}
 use Prim.Native.Nat.{ℕ, zero, suc, _+_, _*_, _^_, _≤_, _<_}
 use native.Mathlib.Nat.{zero-lt-suc}
 use native.Mathlib.Omega.{arith}
-use lib.Dec.{eqb, lit<}
+use lib.Dec.{eqb, lit<, ltb}
 use lib.ListN.{length, getD}
-use borrow.Author.Tests.{eqb-true, eqb-false, ltb-false}
+use borrow.Author.Tests.{eqb-true, eqb-false, ltb-false, ltb-true}
 use Rattle.rules.specs.Words.{word}
 use Rattle.rules.specs.Shape.{Shape, entryLimit, logA, logB, stagingSize}
 use Rattle.rules.specs.Test.{Test, first, when}
@@ -20,7 +20,7 @@ use Rattle.rules.specs.Answer.{After, Given, conclude, isRefused}
 use Rattle.rules.specs.Plan.{Call}
 use Rattle.rules.specs.Calls.{AllTyped, begun, entriesIn, liveTests, recordTests}
 use Rattle.rules.specs.Sound.{Sound, bookOf}
-use Rattle.rules.proofs.Bool.{and-split, split}
+use Rattle.rules.proofs.Bool.{and-split, or-false, split}
 use Rattle.rules.proofs.Test.{Passed, first-passed, not-not, passed-left, passed-right}
 use Rattle.rules.proofs.Shape.{Good}
 use Rattle.rules.proofs.Held.{Held}
@@ -30,11 +30,11 @@ use Rattle.rules.proofs.Sound.{begun-kept, sound-fits}
 use Rattle.powercut.specs.Steps.{Remedy, Step, barrier, clear, commitSteps, neither, nothing, recoverySteps, remedy, replay}
 use Rattle.powercut.specs.Power.{State, act, view}
 use Rattle.powercut.specs.Commit.{commitList, commitNext, commitStart, commitStep, commitTests, isCommitting, nextPhase, placeIn, startPhase}
-use Rattle.powercut.specs.Recovery.{Progress, Recovery, RecoveryAfter, concludeRecovery, doneSteps, finished, isRecovering, nextProgress, recovering, recoveryList, recoveryNext, recoveryStart, recoveryStep, recoveryTests, startRecovery}
+use Rattle.powercut.specs.Recovery.{Progress, Recovery, RecoveryAfter, concludeRecovery, countAbove, doneSteps, finished, impossibleRecovery, isRecovering, logLost, nextProgress, recovering, recoveryList, recoveryNext, recoveryStart, recoveryStep, recoveryTests, startRecovery}
 use Rattle.powercut.specs.WholeRun.{Accepted, Holds, Makes, Run, cutOff, entries, holding, made, meets, resuming}
 use Rattle.powercut.specs.Claim.{new}
 use Rattle.powercut.proofs.StepRun.{Claim, StepRun, Entries, Clean, Position, atCommit, atCut, atRecovery}
-use Rattle.powercut.proofs.StepCount.{commit-count, replay-count}
+use Rattle.powercut.proofs.StepCount.{commit-count, recovery-few, replay-count}
 use Rattle.powercut.proofs.StepRunClaim.{step-run-claim}
 use Rattle.powercut.proofs.Headers.{step-run-headers}
 
@@ -58,13 +58,25 @@ step-none : (g : Given) → Accepted (commitStep g .answer) → first (commitTes
 unfolding commitStep
 step-none g f = accepted-none g _ _ f
 
-recover-none : (p : List ℕ) → Accepted (recoveryStart p .answer) → first (openTests p) ≡ none
+pub recover-none : (p : List ℕ) → Accepted (recoveryStart p .answer) → first (openTests p) ≡ none
 unfolding recoveryStart
 recover-none p f = accepted-recovery-none p _ _ _ f
 
-again-none : (p : List ℕ) (r : Recovery) → Accepted (recoveryStep p r .answer) → first (recoveryTests p r) ≡ none
+pub again-none : (p : List ℕ) (r : Recovery) → Accepted (recoveryStep p r .answer) → first (recoveryTests p r) ≡ none
 unfolding recoveryStep
 again-none p r f = accepted-recovery-none p r _ _ f
+
+-- the step is one of its list, which has at most 259
+pub again-inside : (p : List ℕ) (r : Recovery) → first (recoveryTests p r) ≡ none → (doneSteps (r .phase) < length (recoveryList p r)) × (length (recoveryList p r) ≤ 259)
+unfolding recoveryTests impossibleRecovery recoveryList
+again-inside p r e =
+    let k : ℕ = doneSteps (r .phase) in
+    let n : ℕ = length (recoverySteps (shapeIn p) p (r .work)) in
+    let q = passed-right (openTests p) _ (first-passed _ e) in
+    let a = or-false (countAbove (r .work)) _ (q .0) in
+    let b : (true && (not (ltb k n) || logLost (shapeIn p) p (r .work) k)) ≡ false = rw (not-not (isRecovering (r .phase)) (q .1 .0)) at (a .1) in
+    let c = or-false (not (ltb k n)) (logLost (shapeIn p) p (r .work) k) b in
+    (ltb-true k n (not-not (ltb k n) (c .0)), recovery-few (shapeIn p) p (r .work) (a .0))
 
 -- what the record is then
 pub start-left : (g : Given) → first (recordTests g ++ liveTests g) ≡ none → commitStart g .left .txn ≡ record { count = g .txn .count; phase = startPhase (g .txn .count) }

@@ -1,16 +1,19 @@
 -- The step lists by number: how many steps there are, and which step is number k, as code that goes by the number needs it. Assumes nothing.
 use mathlib.Core.Path.{_≡_, refl, sym, ap, _∙_, subst}
+use mathlib.Core.Bool.{false}
 use mathlib.Core.List.{List, [], _∷_, _++_, map}
-use Prim.Native.Nat.{ℕ, zero, suc, _+_, _*_, _<_}
+use Prim.Native.Nat.{ℕ, zero, suc, _+_, _*_, _<_, _≤_}
 use native.Mathlib.Nat.{not-suc-le-zero, le-of-suc-le-suc}
 use native.Mathlib.Omega.{arith}
 use lib.ListN.{length, getD, length-append, length-map, List·getD-append}
 use lib.Seq.{getD-append-add}
-use Rattle.rules.specs.Shape.{Shape, logA, logB, logHead}
+use borrow.Author.Tests.{ltb-false}
+use Rattle.rules.specs.Shape.{Shape, entryLimit, logA, logB, logHead}
 use Rattle.rules.specs.Staging.{Store, entriesAt}
 use Rattle.rules.proofs.Transaction.{entries-count}
 use Rattle.powercut.specs.Log.{Log, logAt, sealOf}
-use Rattle.powercut.specs.Steps.{Step, barrier, clear, commitSteps, logStores, parity, recoverySteps, redo, replay, seals, store}
+use Rattle.powercut.specs.Steps.{Remedy, Step, barrier, clear, commitSteps, logStores, neither, nothing, parity, recoverySteps, redo, replay, seals, store}
+use Rattle.powercut.specs.Recovery.{countAbove}
 
 abbrev pub none : Store
 none = record { at = 0; val = 0 }
@@ -115,3 +118,11 @@ module _ (sh : Shape) where
   pub clear-count : (p : List ℕ) → length (recoverySteps sh p clear) ≡ 3
   unfolding recoverySteps
   clear-count p = refl
+
+  -- at most 2 × 127 + 5
+  pub recovery-few : (p : List ℕ) (w : Remedy) → countAbove w ≡ false → length (recoverySteps sh p w) ≤ 259
+  unfolding countAbove
+  recovery-few p (replay l n) e = rw (replay-count p l n) (let a = ltb-false entryLimit n e in omega arith)
+  recovery-few p clear e = rw (clear-count p) (omega arith)
+  recovery-few p nothing e = unfold recoverySteps in omega arith
+  recovery-few p neither e = unfold recoverySteps in omega arith

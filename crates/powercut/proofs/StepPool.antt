@@ -1,6 +1,7 @@
 -- The power model's pool, as the next call meets it, is the one that the step leaves; so without a cut it is what the steps made so far
 -- leave. Assumes nothing.
 use mathlib.Core.Path.{_≡_, refl, sym, ap, _∙_}
+use mathlib.Core.Bool.{true}
 use mathlib.Core.List.{List, [], _∷_, _++_}
 use Prim.Native.Nat.{ℕ, suc}
 use native.Mathlib.Omega.{arith}
@@ -23,6 +24,13 @@ unfolding act keep
 view-act sh es (store x) s = lay-snoc (s .base) (s .pend) x
 view-act sh es (parity e) s = lay-snoc (s .base) (s .pend) (record { at = parityAt sh (e .at); val = parityWord sh (view s) (e .at) })
 view-act sh es barrier s = refl
+
+-- a seal that has reached memory has done so for good
+pub reached-act : (sh : Shape) (es : List Store) (x : Step) (s : State) → s .reached ≡ true → act sh es x s .reached ≡ true
+unfolding act keep
+reached-act sh es (store x) s h = h
+reached-act sh es (parity e) s h = h
+reached-act sh es barrier s h = rw h
 
 made-last : (sh : Shape) (l : List Step) (x : Step) (p : List ℕ) → stepsMade sh (l ++ (x ∷ [])) p ≡ stepPool sh x (stepsMade sh l p)
 unfolding stepsMade

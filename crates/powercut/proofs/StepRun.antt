@@ -60,6 +60,8 @@ module _ (sh : Shape) where
     pub never-refused : (s : State) → StepRun sh es p₀ atCut s → remedy sh (view s) ≢ neither
     -- a recovery finds nothing to do, or replays a log with all entries
     pub remedies : (s : State) (q : Remedy) (k : ℕ) → StepRun sh es p₀ (atRecovery q k) s → (q ≡ nothing) ⊎ ((l : Log) × (q ≡ replay l (length es)))
+    -- after a cut there is nothing to do, or a seal has reached memory
+    pub sealed : (s : State) → StepRun sh es p₀ atCut s → (remedy sh (view s) ≡ nothing) ⊎ (s .reached ≡ true)
     -- while a recovery stores data or parity, its log is valid with its count
     pub log-kept : (s : State) (l : Log) (n k : ℕ) → StepRun sh es p₀ (atRecovery (replay l n) k) s → k < 2 * n + 2
         → (valid sh (view s) (logAt sh l) ≡ true) × (countIn (word (view s) (logAt sh l)) ≡ n)

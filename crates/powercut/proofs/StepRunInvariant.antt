@@ -1,7 +1,7 @@
 -- What holds at every moment of a run by step numbers, by induction on it. Of one entry or more over a clean pool (`Setting`). Assumes
 -- nothing else.
 use mathlib.Core.Path.{_≡_, refl, sym, ap, _∙_, subst}
-use mathlib.Core.Logic.{_≢_, _⊎_, inl, inr}
+use mathlib.Core.Logic.{_≢_, _⊎_, inl, inr, ⊎-elim}
 use mathlib.Core.Bool.{Bool, true, false, _||_}
 use mathlib.Core.List.{List, [], Sublistᴰ, Sublistᴰ·eq-nil, Sublistᴰ·refl}
 use Prim.Native.Nat.{ℕ, suc, _+_, _*_, _<_}
@@ -53,17 +53,17 @@ module _ (sh : Shape) (es : List Store) (p₀ : List ℕ) (c : Setting sh es p�
   view-is s e = ap (lay (s .base)) e
 
   -- what a recovery finds
+  nothing-found : (s : State) → s .pend ≡ [] → CleanAt sh es p₀ (s .base) (s .reached) → remedy sh (view s) ≡ nothing
+  nothing-found s e h =
+      ap (remedy sh) (view-is s e) ∙ remedy-nothing sh (s .base) (h .every (logA sh) (even-A sh es p₀ c) (in-A sh es p₀ c) .sa refl) (h .every (logB sh) (even-B sh es p₀ c) (in-B sh es p₀ c) .sb refl)
+
   found : (s : State) → Inv sh es p₀ atCut s → (q : Remedy) × (remedy sh (view s) ≡ q) × Inv sh es p₀ (atRecovery q 0) s
   found s (e, h) = go h where
     p : List ℕ
     p = s .base
 
     go : AfterCut sh es p₀ (s .base) (s .reached) → (q : Remedy) × (remedy sh (view s) ≡ q) × Inv sh es p₀ (atRecovery q 0) s
-    go (inl h) = (
-      nothing,
-      ap (remedy sh) (view-is s e) ∙ remedy-nothing sh p (h .every (logA sh) (even-A sh es p₀ c) (in-A sh es p₀ c) .sa refl) (h .every (logB sh) (even-B sh es p₀ c) (in-B sh es p₀ c) .sb refl),
-      (e, h),
-    )
+    go (inl h) = (nothing, nothing-found s e h, (e, h))
     go (inr (r, h)) = which (h .pair .kind) where
       safe : (b : ℕ) → Source sh es p₀ (h .pair .vA) (h .pair .vB) b → CrashSafe sh es (CutLog sh es p₀ b) (Done sh es p₀) (redo sh es) s
       safe b x = subst (λ (y : State). CrashSafe sh es (CutLog sh es p₀ b) (Done sh es p₀) (redo sh es) y)
@@ -160,6 +160,9 @@ module _ (sh : Shape) (es : List Store) (p₀ : List ℕ) (c : Setting sh es p�
 
   pub not-refused : (s : State) → StepRun sh es p₀ atCut s → remedy sh (view s) ≢ neither
   not-refused s r e = let h = found s (run-inv r) in subst (λ (q : Remedy). Inv sh es p₀ (atRecovery q 0) s) (sym (h .1) ∙ e) (h .2)
+
+  pub cut-sealed : (s : State) → StepRun sh es p₀ atCut s → (remedy sh (view s) ≡ nothing) ⊎ (s .reached ≡ true)
+  cut-sealed s r = let i = run-inv r in ⊎-elim (λ h. inl (nothing-found s (i .0) h)) (λ h. inr (h .0)) (i .1)
 
   -- while a recovery stores data or parity, its log is valid with its count: refusal 10 is not met
   pub log-kept : (s : State) (b : Log) (n k : ℕ) → StepRun sh es p₀ (atRecovery (replay b n) k) s → k < 2 * n + 2

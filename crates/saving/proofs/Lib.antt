@@ -3,3 +3,4 @@ pub mod Uncut
 pub mod Saved
 pub mod Ascending
 pub mod TakenBack
+pub mod Recovering

@@ -3,9 +3,19 @@ use Prim.Native.Nat.{ℕ, zero, suc, _-_, _<_, _≤_}
 use mathlib.Core.Path.{_≡_, refl, sym, ap, _∙_}
 use mathlib.Core.Bool.{Bool, true, false}
 use native.Mathlib.Omega.{arith}
-use Rattle.rules.specs.Answer.{After, Given}
+use Rattle.rules.specs.Answer.{After, Answer, Given, isRefused}
+use Rattle.rules.proofs.Bool.{split}
 use Rattle.powercut.specs.Commit.{commitStart, commitStep}
-use Rattle.saving.specs.Saving.{committedFor, isEnd, stepsFrom}
+use Rattle.saving.specs.Saving.{committedFor, isDone, isEnd, stepsFrom}
+
+-- Done ends a commit, and so does a refusal.
+pub done-ends : (a : Answer) → isDone a ≡ true → isEnd a ≡ true
+unfolding isEnd
+done-ends a h = rw h
+
+pub refused-ends : (a : Answer) → isRefused a ≡ true → isEnd a ≡ true
+unfolding isEnd
+refused-ends a h = split (isDone a) (λ e. rw e) (λ e. rw (e, h))
 
 -- An answer that ends the commit stays.
 pub steps-end : (n : ℕ) (x : After) {b : Bool} → b ≡ isEnd (x .answer) → b ≡ true → stepsFrom n x ≡ x

@@ -5,7 +5,7 @@ use mathlib.Core.Path.{_≡_, refl, sym, ap, ap₂, _∙_, subst}
 use mathlib.Core.Logic.{_⊎_, inl, inr, ⊎-elim}
 use mathlib.Core.Bool.{true, false}
 use mathlib.Core.Option.{Option}
-use mathlib.Core.List.{List, []}
+use mathlib.Core.List.{List}
 use native.Mathlib.Omega.{arith}
 use lib.Dec.{eqb}
 use lib.ListN.{length}
@@ -26,7 +26,7 @@ use Rattle.powercut.specs.Claim.{new}
 use Rattle.powercut.proofs.RunMatches.{Input, accepted-none, few, live-is, place-is, start-left, start-none, step-left}
 use Rattle.powercut.proofs.PowerCut.{phase-end, phase-on, power-cut}
 use Rattle.saving.specs.Saving.{committedFor, isDone, isEnd, stepsFrom}
-use Rattle.saving.proofs.Saving.{steps-end, steps-next}
+use Rattle.saving.proofs.Saving.{done-ends, steps-end, steps-next}
 
 -- ---- answers
 
@@ -60,11 +60,11 @@ step-staging : (g : Given) → Accepted (commitStep g .answer) → commitStep g 
 unfolding commitStep
 step-staging g f = ap (λ (x : After). x .left .staging) (concluded g _ _ f)
 
-answer-last : (k n : ℕ) (x : Step) → eqb (suc k) n ≡ true → stepAnswer k n x ≡ done n
+pub answer-last : (k n : ℕ) (x : Step) → eqb (suc k) n ≡ true → stepAnswer k n x ≡ done n
 unfolding stepAnswer
 answer-last k n x e = rw e
 
-answer-on : (k n : ℕ) (x : Step) → eqb (suc k) n ≡ false → isEnd (stepAnswer k n x) ≡ false
+pub answer-on : (k n : ℕ) (x : Step) → eqb (suc k) n ≡ false → isEnd (stepAnswer k n x) ≡ false
 unfolding stepAnswer isEnd isDone isRefused madeAnswer
 answer-on k n x e = rw e (on x)
   where
@@ -72,10 +72,6 @@ answer-on k n x e = rw e (on x)
     on (store y) = refl
     on (parity y) = refl
     on barrier = refl
-
-done-ends : (a : Answer) → (k : ℕ) × (a ≡ done k) → isEnd a ≡ true
-unfolding isEnd isDone
-done-ends a e = ap isEnd (e .1)
 
 given-is : (g : Given) (p q : List ℕ) → g .pool ≡ p → g .staging ≡ q → g ≡ record { pool = p; staging = q; txn = g .txn }
 given-is g p q e f = ap₂ (λ (x y : List ℕ). record { pool = x; staging = y; txn = g .txn }) e f
@@ -128,7 +124,8 @@ module _ (pool staging : List ℕ) (ks : List Call) (sound : Sound pool) (typed 
       subst (λ (g : Given). (k < size) × (Over (commitStep g) ⊎ Going (suc k) (commitStep g))) (sym (w .along .met)) (step-on k (x .left .txn) (w .along .s) (w .along .run) (w .phase))
 
   over-stays : (n : ℕ) (x : After) → Over x → Over (stepsFrom n x)
-  over-stays n x o = subst Over (sym (steps-end n x refl (done-ends (x .answer) (o .last)))) o
+  unfolding isDone
+  over-stays n x o = subst Over (sym (steps-end n x refl (done-ends (x .answer) (ap isDone (o .last .1))))) o
 
   goes-on : (m k n : ℕ) (x : After) → Going k x → k + m ≡ size → m ≤ n → Over (stepsFrom n x)
   goes-on zero k n x w q l = absurd (let i = step-of k x w .0 in omega arith)

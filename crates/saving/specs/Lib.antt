@@ -1,3 +1,4 @@
 pub mod Saving
 pub mod Reading
 pub mod TakenBack
+pub mod Recovering

@@ -20,7 +20,7 @@ isDone (passed k) = false
 isDone (done k) = true
 isDone (refused n) = false
 
--- Done, or a refusal, ends a commit.
+-- Done, or a refusal, ends a commit or a recovery.
 unfoldable pub isEnd : Answer → Bool
 isEnd a = isDone a || isRefused a
 

@@ -1,13 +1,16 @@
-// Callers of the transaction's calls, proved from the contracts of these alone: a commit made step after step, an object saved, and
-// one allocated and freed again. No function has a `requires`.
+// Callers of the transaction's and the recovery's calls, proved from the contracts of these alone: a commit made step after step, an object
+// saved, one allocated and freed again, and a recovery driven to its end. No function has a `requires`.
 ghost use mathlib.Core.Path.{_≡_};
 ghost use Rattle.rules.specs.Answer.{isRefused};
 ghost use Rattle.answers.specs.Reading.{answerOf};
 ghost use Rattle.transaction.specs.Reading.{afterOf, givenOf};
+ghost use Rattle.recovery.specs.Reading.{afterOf as recoveredOf};
 ghost use Rattle.saving.specs.Saving.{committedFor, isDone, isEnd, Saves, stepsFrom};
 ghost use Rattle.saving.specs.Reading.{outcomeOf};
 ghost use Rattle.saving.specs.TakenBack.{addressIn, TakesBack};
+ghost use Rattle.saving.specs.Recovering.{Recovers};
 use answers::Answer;
+use recovery::Recovery;
 use transaction::Reply;
 use transaction::Transaction;
 
@@ -39,7 +42,7 @@ fn is_refused(answer: Answer) -> bool
     }
 }
 
-// Whether this answer ends a commit.
+// Whether this answer ends a commit or a recovery.
 fn ends(answer: Answer) -> bool
     ensures { λ r. ⌜ r ≡ isEnd (answerOf answer) ⌝ }
 {
@@ -121,4 +124,22 @@ pub fn take_back(pool: &[u8], staging: &mut [u8], tag: u32, body: &[u8]) -> Repl
     }
     let txn = first.transaction;
     txn.free(pool, staging, address_in(answer))
+}
+
+// Recovers the pool: no recovery has more than 2 × 127 + 5 steps. What the last call answered and handed back.
+pub fn recover(pool: &mut [u8]) -> recovery::Reply
+    ensures { λ r. ⌜ Recovers (now (pool .entry)) (recoveredOf r (now (pool .exit))) ⌝ }
+{
+    let mut r = Recovery::start(pool);
+    let mut left = 259usize;
+    while left > 0 {
+        let last = r.answer;
+        if ends(last) {
+            return r;
+        }
+        let recovery = r.recovery;
+        r = recovery.step(pool);
+        left -= 1;
+    }
+    r
 }

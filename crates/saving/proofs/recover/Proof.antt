@@ -1,0 +1,73 @@
+-- `saving::recover` meets its contract: what is left to do gives the whole. Assumes nothing.
+use borrow.Author.Needs.{needs}
+use mathlib.Core.Path.{_≡_, _∙_}
+use lib.ListN.{length}
+use native.Mathlib.Omega.{arith}
+use Rattle.recovery.specs.Reading.{afterOf}
+use Rattle.saving.specs.Recovering.{recoveredFor, recoveryFrom}
+use Rattle.saving.proofs.Recovering.{recover-begun, recover-end, recover-last, recover-on}
+use Rattle.saving.proofs.recover.Statement.{statement}
+use Rattle.saving.proofs.recover.Tie as tie
+
+abbrev Inv-loop : tie.InvT-loop
+Inv-loop pool₀ r₀ left₀ pool r left = (length pool ≡ length pool₀) × (recoveryFrom left (afterOf r pool) ≡ recoveredFor 259 pool₀)
+
+abbrev μ-loop : tie.MeasureT-loop
+μ-loop pool₀ r₀ left₀ pool r left = left
+
+start-requires : tie.Need-start-requires Inv-loop μ-loop
+start-requires c κs = search needs
+
+loop-holds : tie.Need-loop-holds Inv-loop μ-loop
+loop-holds c = (search needs, recover-begun _ _ _ (omega arith) (c .start .ensures))
+
+ends-requires : tie.Need-ends-requires Inv-loop μ-loop
+ends-requires c κs = search needs
+
+same-length : tie.Need-same-length Inv-loop μ-loop
+same-length c = search needs
+
+returns : tie.Need-returns Inv-loop μ-loop
+returns c =
+    let l = c .before .before .before .loop in
+    recover-end _ (afterOf (l .r) (l .pool)) (l .left) (c .before .ends .ensures) (c .if1 .taken) (l .inv .1)
+
+step-requires : tie.Need-step-requires Inv-loop μ-loop
+step-requires c κs = search needs
+
+sub-left : tie.Need-sub-left Inv-loop μ-loop
+sub-left c = search needs
+
+loop-less : tie.Need-loop-less Inv-loop μ-loop
+loop-less c = search needs
+
+loop-again : tie.Need-loop-again Inv-loop μ-loop
+loop-again c =
+    let l = c .before .before .before .before .before .before .before .before .loop in
+    (search needs, recover-on (l .left) (afterOf (l .r) (l .pool)) _ (omega arith) (c .before .before .before .before .before .before .ends .ensures) (c .before .before .before .before .before .if1 .left) (c .before .before .step .ensures) ∙ l .inv .1)
+
+same-length-2 : tie.Need-same-length-2 Inv-loop μ-loop
+same-length-2 c = search needs
+
+returns-2 : tie.Need-returns-2 Inv-loop μ-loop
+returns-2 c =
+    let l = c .before .loop in
+    recover-last _ (afterOf (l .r) (l .pool)) (l .left) (omega arith) (l .inv .1)
+
+pub recover-spec : {M : Type 1} → statement M
+recover-spec =
+    tie.close
+    (tie.spec
+    Inv-loop
+    μ-loop
+    start-requires
+    loop-holds
+    ends-requires
+    same-length
+    returns
+    step-requires
+    sub-left
+    loop-less
+    loop-again
+    same-length-2
+    returns-2)

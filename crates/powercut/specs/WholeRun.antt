@@ -55,7 +55,7 @@ module _ (pool staging : List ℕ) (ks : List Call) where
     cut : {t : Transaction} {s : State} {kept : List Store} → Run (holding t) s → Sublistᴰ kept (s .pend) → Run cutOff (keep (shapeIn pool) entries s kept)
     cut-again : {r : Recovery} {s : State} {kept : List Store} → Run (resuming r) s → Sublistᴰ kept (s .pend) → Run cutOff (keep (shapeIn pool) entries s kept)
 
-  -- The uncut way on from what is held and a state: n calls, one after the other.
+  -- The uncut way on from what is held and a state: n calls, one after the other. Each is a `next` of a run that comes to that state.
   pub data Uncut : ℕ → Holds → State → Holds → State → Type 0 where
     here : {h : Holds} {s : State} → Uncut 0 h s h s
     onward : {n : ℕ} {h h′ h″ : Holds} {s s′ s″ : State} → Makes h s h′ s′ → Uncut n h′ s′ h″ s″ → Uncut (suc n) h s h″ s″

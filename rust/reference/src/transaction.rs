@@ -6,7 +6,6 @@ use crate::layout::{word, Shape, CELL, ENTRY, HEAD, WORD};
 use crate::records::{Reply, Transaction, ADDRESS, DONE, REFUSED, STARTED, TAKEN};
 use crate::refusal::{BODY, BROKEN, DAMAGED, IMPOSSIBLE, NO_ROOM, RANGE, STAGING, STATE, TOO_MANY};
 use crate::runs::{cells_for, find, walk, Head, Place, Run};
-use crate::steps::commit_steps;
 use crate::writeset::{targets_fit, WriteSet};
 
 /// A fresh transaction: open, without entries.
@@ -73,7 +72,7 @@ fn judge_counts(t: Transaction, staging: &[u8]) -> Result<(), usize> {
         return Err(IMPOSSIBLE);
     }
     match t.phase.checked_sub(Transaction::COMMITTING) {
-        Some(place) if place >= commit_steps(t.count) => Err(IMPOSSIBLE),
+        Some(place) if place >= t.steps() => Err(IMPOSSIBLE),
         _ => Ok(()),
     }
 }

@@ -47,6 +47,7 @@ fn clear_at(place: usize) -> Step {
 /// Makes the step. Its kind; "done" is said only after the last.
 fn make(pool: &mut [u8], step: Step, last: bool) -> usize {
     if let Some((offset, word)) = step {
+        debug_assert!(offset.is_multiple_of(WORD), "a store is aligned");
         put_word(pool, offset, word);
     }
     match step {

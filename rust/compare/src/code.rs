@@ -46,7 +46,13 @@ pub struct Effects {
 }
 
 pub fn functions(archive: &str) -> Functions {
-    let text = objdump(&["-dr", "--no-show-raw-insn", archive]);
+    let mut functions = parsed(&objdump(&["-dr", "--no-show-raw-insn", archive]));
+    read_tables(archive, &mut functions);
+    functions
+}
+
+/// Of the text that objdump prints, without tables of jumps.
+pub fn parsed(text: &str) -> Functions {
     let mut functions = Functions::new();
     let mut name = "";
     for line in text.lines() {
@@ -61,7 +67,6 @@ pub fn functions(archive: &str) -> Functions {
             functions.get_mut(name).expect("a function").code.push(instruction(at, code));
         }
     }
-    read_tables(archive, &mut functions);
     functions
 }
 
@@ -104,14 +109,19 @@ fn instruction(at: usize, code: &str) -> Instruction {
         }
     }
     operands.retain(|operand| !operand.is_empty());
+    let name = if ["callq", "retq", "jmpq", "pushq", "popq"].contains(&name) { name.trim_end_matches('q') } else { name };
     Instruction { at, name: name.into(), operands, symbol: None }
 }
 
 const REGISTERS: [&str; 16] = ["ax", "bx", "cx", "dx", "si", "di", "bp", "sp", "8", "9", "10", "11", "12", "13", "14", "15"];
+const RAX: usize = 0;
+const RDX: usize = 3;
 const RDI: usize = 5;
 const RSP: usize = 7;
 /// Those that a call may change.
-const CLOBBERED: [usize; 9] = [0, 2, 3, 4, RDI, 8, 9, 10, 11];
+const CLOBBERED: [usize; 9] = [RAX, 2, RDX, 4, RDI, 8, 9, 10, 11];
+/// Instructions that change %rax and %rdx alone.
+const RAX_RDX: [&str; 8] = ["div", "divq", "divl", "idiv", "mul", "mulq", "cqto", "cltq"];
 
 /// The number of a general register, or of the one that it is a part of.
 fn register(operand: &str) -> Option<usize> {
@@ -167,7 +177,7 @@ impl Instruction {
 
     /// Whether the last operand is changed, and nothing else but flags. Panics if the instruction is not known.
     fn changes_last(&self) -> bool {
-        const NOTHING: [&str; 7] = ["cmp", "test", "bt", "nop", "ud2", "ret", "call"];
+        const NOTHING: [&str; 4] = ["cmp", "test", "bt", "nop"];
         const LAST: [&str; 19] = [
             "mov", "add", "sub", "adc", "sbb", "and", "or", "xor", "not", "neg", "inc", "dec", "shl", "shr", "sar", "rol", "ror", "imul",
             "lea",
@@ -177,15 +187,17 @@ impl Instruction {
             "movdqu", "movdqa", "movhps", "movlps", "movhpd", "movlpd", "pxor", "por", "pand", "xorps", "orps", "pshufd", "pcmpeqb",
             "pmovmskb",
         ];
-        let plain = |names: &[&str]| names.contains(&self.name.trim_end_matches(['b', 'w', 'l', 'q'])) || self.is(names);
-        if self.is_jump() || plain(&NOTHING) || self.is(&["div", "divq", "divl", "idiv", "mul", "mulq", "cqto", "cltq", "push", "pop"]) {
+        let stem = self.name.strip_suffix(['b', 'w', 'l', 'q']).unwrap_or("");
+        let sized = |names: &[&str]| self.is(names) || names.contains(&stem);
+        if self.is_jump() || sized(&NOTHING) || self.is(&["push", "pop", "call", "ret", "ud2"]) || self.is(&RAX_RDX) {
             return false;
         }
         if self.is(&["xchg"]) && self.operands[0] == self.operands[1] {
             return false;
         }
-        let known = plain(&LAST) || self.is(&LAST_ONLY) || self.name.starts_with("set") || self.name.starts_with("cmov");
-        assert!(known && self.operands.len() <= 3, "not known whether it writes: {self:?}");
+        let known = sized(&LAST) || self.is(&LAST_ONLY) || self.name.starts_with("set") || self.name.starts_with("cmov");
+        let one_operand_product = self.name.starts_with("imul") && self.operands.len() == 1;
+        assert!(known && !one_operand_product, "not known whether it writes: {self:?}");
         true
     }
 
@@ -264,8 +276,8 @@ impl State {
             }
         } else if i.is(&["call"]) {
             CLOBBERED.iter().for_each(|&r| next.registers[r] = Pointer::Other);
-        } else if i.is(&["div", "divq", "divl", "idiv", "mul", "mulq", "cqto", "cltq"]) {
-            [0, 3].iter().for_each(|&r| next.registers[r] = Pointer::Other);
+        } else if i.is(&RAX_RDX) {
+            [RAX, RDX].iter().for_each(|&r| next.registers[r] = Pointer::Other);
         } else if i.changes_last() && whole_register(last) == Some(RSP) {
             let by = i.operands[0].strip_prefix('$').and_then(number).expect("a number added to the stack pointer");
             next.top += match i.name.as_str() {

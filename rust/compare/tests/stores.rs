@@ -5,7 +5,7 @@
 //! the pointer under which the caller wants the answer, or it counts as a store, through whatever register. Each function called must be one
 //! of the library's own (so neither memcpy nor memset), must make no store, and must be given a place in the caller's frame for its answer.
 //! An instruction of which it is not known whether it writes fails the test.
-use compare::code::{effects, functions, Functions};
+use compare::code::{effects, functions, parsed, Functions};
 use std::collections::BTreeSet;
 use std::mem::size_of;
 
@@ -53,4 +53,46 @@ fn more_stores_are_seen() {
         assert!(effects(&functions, function).calls.iter().any(|(name, _)| name == callee), "{function} calls {callee}");
         assert!(!functions.contains_key(callee));
     }
+}
+
+/// Two words through other registers, one of them by way of the stack; then a pointer that is the answer's on one way only.
+#[test]
+fn writes_are_told_apart() {
+    let functions = parsed(
+        "0000000000000000 <two>:
+   0:\tsub    $0x10,%rsp
+   4:\tmov    %rdi,(%rsp)
+   8:\tmov    %rsi,0x8(%rsp)
+   d:\tmov    (%rsp),%rax
+  11:\tmov    %rdx,0x8(%rax)
+  15:\tmov    0x8(%rsp),%rax
+  1a:\tmov    %rdx,0x8(%rax)
+  1e:\tmovb   $0x1,(%rcx,%rdx,1)
+  22:\tadd    $0x10,%rsp
+  26:\tret
+0000000000000000 <either>:
+   0:\tmov    %rdi,%rbx
+   3:\ttest   %rdx,%rdx
+   6:\tje     b <either+0xb>
+   8:\tmov    %rsi,%rbx
+   b:\tmov    %rdx,(%rbx)
+   e:\tret
+",
+    );
+    for (function, result, others) in [("two", 1, 2), ("either", 0, 1)] {
+        let does = effects(&functions, function);
+        assert_eq!((does.result.len(), does.others.len()), (result, others), "{function}: {does:?}");
+    }
+}
+
+#[test]
+#[should_panic(expected = "not known whether it writes")]
+fn an_unknown_instruction_is_refused() {
+    effects(&parsed("0000000000000000 <fill>:\n   0:\trep stos %rax,%es:(%rdi)\n   3:\tret\n"), "fill");
+}
+
+#[test]
+#[should_panic(expected = "was not found")]
+fn a_missing_function_is_refused() {
+    effects(&functions(linked::ARCHIVE), "pool_no_such_step");
 }

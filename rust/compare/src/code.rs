@@ -2,8 +2,8 @@
 //!
 //! Pointers are followed along every way through a function, in registers and in stack slots, so far as to tell three apart: one to the
 //! function's result (in %rdi at its entry), one into its own stack frame, and any other. That the stack frame and the result are what the
-//! compiler says is taken for granted. An instruction that is not known here, a call through a register and a jump out of the function
-//! end in a panic, so that nothing writes unseen.
+//! compiler says is taken for granted. An instruction that is not known here, a call or jump through a register (but for a table of jumps)
+//! and a jump out of the function end in a panic, so that nothing writes unseen.
 use std::collections::{BTreeMap, BTreeSet};
 use std::process::Command;
 
@@ -22,7 +22,7 @@ pub struct Instruction {
     at: usize,
     pub name: String,
     pub operands: Vec<String>,
-    /// The symbol that a call goes to.
+    /// The symbol that a call goes to, or another operand names.
     symbol: Option<String>,
 }
 
@@ -256,7 +256,7 @@ impl State {
         match i.name.as_str() {
             "mov" => source,
             "lea" => self.lies(from),
-            "cmove" | "cmovne" | "cmovb" | "cmovae" if register(i.last()).is_some_and(|to| self.registers[to] == source) => source,
+            name if name.starts_with("cmov") && register(i.last()).is_some_and(|to| self.registers[to] == source) => source,
             _ => Pointer::Other,
         }
     }
@@ -346,7 +346,11 @@ fn states(Function { code, targets }: &Function) -> Vec<Option<State>> {
         if i.is_jump() {
             match target(i) {
                 Some(target) => waiting.push((target, next.clone())),
-                None => waiting.extend(in_tables.iter().map(|&target| (target, next.clone()))),
+                None => {
+                    let loaded = |load: &Instruction| load.is(&["movslq"]) && i.last().strip_prefix('*') == Some(load.last());
+                    assert!(code[n.saturating_sub(4)..n].iter().any(loaded), "a jump that is not through a table: {i:?}");
+                    waiting.extend(in_tables.iter().map(|&target| (target, next.clone())));
+                }
             }
         }
         if !i.ends() {

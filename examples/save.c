@@ -14,7 +14,8 @@
 #define LENGTH POOL_SIZE(2, 2, 1) /* 2 data rows of 2 pages, 1 zone */
 #define ALL_STEPS ((size_t)-1)
 
-static uint8_t pool[LENGTH];
+static uint64_t words[LENGTH / 8]; /* begins at a multiple of 8, as a pool does that is to survive power cuts */
+static uint8_t *const pool = (uint8_t *)words;
 static uint8_t stable[LENGTH];
 static uint8_t staging[POOL_STAGING];
 
@@ -118,7 +119,11 @@ int main(void)
     recover();
     show(address);
 
-    replace(address, "2 kHz, 1.0 V", 18); /* both seals have reached memory: the new bytes are there */
+    replace(address, "2 kHz, 1.0 V", 18); /* both seals have reached memory: the new bytes are there, after recovery */
+    if (pool_look(pool, LENGTH, address).refusal != POOL_REFUSED_SEALED) {
+        printf("look before recovery: not refused\n");
+        return 1;
+    }
     recover();
     show(address);
 

@@ -10,29 +10,7 @@
  *
  * A call that is refused changes nothing: no byte of the pool or of the staging memory, and it hands back the record that it was
  * given. If several refusals apply, the first is answered, in the order 1, 2 (under 512 bytes), 3, 4, 2 (length), 9, 10, 29, 21, 22, 6,
- * 8, 5, 23, 24, 25, 7, 26, 28, 27. They are:
- *
- *    1  format: rows not 1 to 15, cols not 1 to 64, zones not 1 to 16, or id 0
- *    2  the pool is under 512 bytes, or its length is not the header's (at format, the given shape's)
- *    3  neither header is valid
- *    4  both headers are valid, and different
- *    5  the address is not below zones * 4 * rows * cols
- *    6  allocate: the body has 0 bytes, or more than 496
- *    7  write: the range is empty, or goes past the body
- *    8  the loss list has not zones * cols masks, or a bit above bit `rows` is set
- *    9  staging has under 2,032 bytes
- *   10  the record is impossible: more than 127 entries, a place past its list, a target outside the data rows, unaligned or
- *       repeated; or, while a recovery stores data or parity, its log is no longer valid with its count
- *   21  a seal is not zero: recover first (not met by pool_mend, pool_recover, pool_recover_step, nor by commit steps after the
- *       first)
- *   22  pool_recover: both seals are non-zero, and neither log is valid
- *   23  the zone is broken
- *   24  no object begins at this address
- *   25  the object is damaged: its check is wrong
- *   26  allocate: no zone is broken, and no free run is long enough
- *   27  the transaction would touch more than 127 distinct words
- *   28  a mask has two bits or more
- *   29  staging or starting a commit when the transaction is not open, or a step when not committing or recovering
+ * 8, 5, 23, 24, 25, 7, 26, 28, 27. Their names and meanings stand below.
  */
 #ifndef POOL_H
 #define POOL_H
@@ -44,16 +22,20 @@
 extern "C" {
 #endif
 
-/* Bytes of staging memory that a transaction needs, and of the longest body. */
+/* The version of this interface: its records, names and numbers. */
+#define POOL_INTERFACE_VERSION 1
+
+/* Bytes of staging memory that a transaction needs, bytes of the longest body, and entries of the longest transaction: distinct words. */
 #define POOL_STAGING 2032
 #define POOL_BODY 496
+#define POOL_ENTRIES 127
 
 /* Bytes of a pool of this shape. */
 #define POOL_SIZE(rows, cols, zones) ((18 + (size_t)(zones) * ((size_t)(rows) + 1) * (size_t)(cols)) * 256)
 
 /* What a call on a transaction or a recovery answers: one of these kinds, with a value. */
 enum {
-    POOL_REFUSED = 0, /* the value is the refusal's number                                                      */
+    POOL_REFUSED = 0, /* the value is the refusal's number, one of POOL_REFUSED_...                             */
     POOL_ADDRESS = 1, /* the value is the address of the object allocated                                       */
     POOL_TAKEN = 2,   /* carried out; the value is 0                                                            */
     POOL_STARTED = 3, /* there are steps to make; the value is 0                                                */
@@ -62,9 +44,42 @@ enum {
     POOL_DONE = 6     /* all steps are made; the value is their number. If it is not 0, pass a last barrier     */
 };
 
+/* Refusals that come from the input, then those that come from the state. */
+enum {
+    POOL_REFUSED_SHAPE = 1,          /* format: rows, cols or zones outside its range, or id 0                              */
+    POOL_REFUSED_LENGTH = 2,         /* pool under 512 bytes, or not the header's (at format, the given shape's) length     */
+    POOL_REFUSED_NO_HEADER = 3,      /* neither header valid                                                                */
+    POOL_REFUSED_HEADERS_DIFFER = 4, /* both valid and different                                                            */
+    POOL_REFUSED_ADDRESS = 5,        /* cell address not below zones * 4 * rows * cols                                      */
+    POOL_REFUSED_BODY = 6,           /* allocate: body 0 or above 496                                                       */
+    POOL_REFUSED_RANGE = 7,          /* write: range empty or past the body                                                 */
+    POOL_REFUSED_LOSS_LIST = 8,      /* loss list not zones * cols masks, or a bit above bit `rows` set                     */
+    POOL_REFUSED_STAGING = 9,        /* staging under 2,032 bytes                                                           */
+    POOL_REFUSED_RECORD = 10,        /* transaction or recovery record impossible: count above 127, place past its list, a
+                                        target outside data rows, unaligned or repeated, or, while recovery is storing data or
+                                        parity, its log no longer valid with its count                                      */
+
+    POOL_REFUSED_SEALED = 21,    /* a seal is not zero (commit steps after the first, recovery and header mending excepted):
+                                    recover first                                                                           */
+    POOL_REFUSED_NO_LOG = 22,    /* start of recovery: both seals non-zero, neither log valid                               */
+    POOL_REFUSED_BROKEN = 23,    /* the zone is broken anywhere                                                             */
+    POOL_REFUSED_NO_OBJECT = 24, /* no object begins there                                                                  */
+    POOL_REFUSED_DAMAGED = 25,   /* object damaged: its check is wrong                                                      */
+    POOL_REFUSED_NO_ROOM = 26,   /* allocate: no zone broken and no free run long enough                                    */
+    POOL_REFUSED_TOO_MANY = 27,  /* more than 127 distinct words touched                                                    */
+    POOL_REFUSED_TWO_LOST = 28,  /* a mask with two bits or more                                                            */
+    POOL_REFUSED_PHASE = 29      /* staging or starting a commit when not open, or a step when not committing or recovering */
+};
+
 /*
- * A transaction: the number of its entries, and its phase: 0 open, 1 closed (done), k + 2 committing, with k steps made. It goes in by
- * value, and each call hands it back: go on with what was handed back. A caller has no need to read or set these numbers.
+ * The records of a transaction and of a recovery are opaque: a caller keeps what the last call handed back and gives it to the next. It
+ * reads no field of theirs and makes none up; what the fields hold is said for those who look at one in a debugger, and may change with
+ * POOL_INTERFACE_VERSION. In the replies and answers every field is to be read as documented.
+ */
+
+/*
+ * A transaction, made by pool_begin: the number of its entries, and its phase: 0 open, 1 closed (done), k + 2 committing, with k steps
+ * made. It goes in by value, and each call hands it back.
  */
 typedef struct {
     size_t count;
@@ -78,9 +93,9 @@ typedef struct {
 } pool_reply;
 
 /*
- * A recovery: what it has to do: 0 nothing, 1 clear both seals, 2 nothing can be done (refused), 2n + 3 replay log A with n entries,
- * 2n + 4 replay log B with n entries; and its phase: 0 finished, k + 1 recovering, with k steps made. It goes from call to call as a
- * transaction does.
+ * A recovery, made by pool_recover: what it has to do: 0 nothing, 1 clear both seals, 2 nothing can be done (refused), 2n + 3 replay log A
+ * with n entries, 2n + 4 replay log B with n entries; and its phase: 0 finished, k + 1 recovering, with k steps made. It goes from call to
+ * call as a transaction does.
  */
 typedef struct {
     size_t work;
@@ -111,7 +126,10 @@ typedef struct {
 
 /* ---- The pool. pool_format, pool_mend and pool_repair answer 0, or the refusal. Pass a barrier after them, before any commit. */
 
-/* Makes a fresh pool: `zones` zones, each of `rows` data rows and a parity row, `cols` pages a row. Refusals 1, 2. */
+/*
+ * Makes a fresh pool: `zones` (1 to 16) zones, each of `rows` (1 to 15) data rows and a parity row, `cols` (1 to 64) pages a row. The id
+ * is any number but 0. Refusals 1, 2.
+ */
 size_t pool_format(uint8_t *pool, size_t pool_length, size_t rows, size_t cols, size_t zones, uint64_t id);
 
 /* Copies the valid header over an invalid one. Refusals 2, 3, 4. */

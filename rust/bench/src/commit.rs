@@ -4,7 +4,7 @@ use crate::library::{Library, PLAIN, PROVED};
 use crate::measure::best;
 use crate::native;
 use crate::report::{Row, Unit};
-use reference::{begin, commit, commit_step, Transaction};
+use reference::{commit, commit_step, Transaction};
 use std::hint::black_box;
 
 const COUNTS: [usize; 4] = [1, 10, 60, 127];
@@ -75,7 +75,7 @@ pub fn saves() -> Vec<Row> {
 }
 
 fn save(library: &Library, pool: &mut Pool, staging: &mut [u8]) -> usize {
-    let reply = (library.allocate)(begin(), pool, staging, 7, &BODY);
+    let reply = (library.allocate)(library.open(pool), pool, staging, 7, &BODY);
     library.save(reply.transaction, pool, staging);
     reply.value
 }
@@ -105,7 +105,7 @@ fn save_and_free_row(shape: Shape) -> Row {
     let (mut first, mut second, mut staging, mut staging2) = (pool.clone(), pool.clone(), [0; 2032], [0; 2032]);
     let again = |library: &Library, pool: &mut Pool, staging: &mut [u8]| {
         let address = save(library, pool, staging);
-        let t = (library.free)(begin(), pool, staging, address).transaction;
+        let t = (library.free)(library.open(pool), pool, staging, address).transaction;
         assert_eq!(library.save(t, pool, staging), 21);
     };
     let mut proved = || again(&PROVED, &mut first, &mut staging);

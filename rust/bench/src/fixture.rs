@@ -1,5 +1,6 @@
 //! Pools and staged transactions to measure on, made by plain Rust.
-use reference::{allocate, begin, commit, commit_step, format, free, Transaction, ADDRESS, DONE};
+use crate::library::PLAIN;
+use reference::{allocate, commit, commit_step, format, free, Transaction, ADDRESS, DONE};
 use std::ops::{Deref, DerefMut};
 
 #[derive(Clone, Copy)]
@@ -73,7 +74,7 @@ impl Clone for Pool {
 pub fn filled(shape: Shape, body: usize, objects: usize) -> (Pool, Vec<usize>) {
     let mut pool = Pool::new(shape.length());
     assert_eq!(format(&mut pool, shape.rows, shape.cols, shape.zones, 1), 0);
-    let (mut addresses, mut staging, mut t) = (Vec::new(), [0; 2032], begin());
+    let (mut addresses, mut staging, mut t) = (Vec::new(), [0; 2032], PLAIN.open(&pool));
     while addresses.len() < objects {
         let bytes: Vec<u8> = (0..body).map(|i| (i * 7 + addresses.len()) as u8).collect();
         let reply = allocate(t, &pool, &mut staging, addresses.len() as u32, &bytes);
@@ -82,7 +83,7 @@ pub fn filled(shape: Shape, body: usize, objects: usize) -> (Pool, Vec<usize>) {
             t = reply.transaction;
         } else if t.count > 0 {
             save(t, &mut pool, &staging); // the staging memory is full, or the pool is
-            t = begin();
+            t = PLAIN.open(&pool);
         } else {
             return (pool, addresses);
         }
@@ -95,7 +96,7 @@ pub fn filled(shape: Shape, body: usize, objects: usize) -> (Pool, Vec<usize>) {
 pub fn nearly_full(shape: Shape, body: usize) -> (Pool, Vec<usize>) {
     let (mut pool, mut addresses) = filled(shape, body, usize::MAX);
     let mut staging = [0; 2032];
-    let reply = free(begin(), &pool, &mut staging, addresses.pop().unwrap());
+    let reply = free(PLAIN.open(&pool), &pool, &mut staging, addresses.pop().unwrap());
     save(reply.transaction, &mut pool, &staging);
     (pool, addresses)
 }
@@ -116,7 +117,7 @@ pub fn staged(shape: Shape, pool: &[u8], count: usize, avoid: &[usize]) -> (Tran
     let start = shape.zone_start(0);
     let words = (start..start + shape.rows * shape.row()).step_by(8).filter(|offset| !avoid.contains(offset));
     let mut staging = [0; 2032];
-    let mut t = begin();
+    let mut t = PLAIN.open(pool);
     for (entry, offset) in staging.chunks_exact_mut(ENTRY).zip(words).take(count) {
         entry[..8].copy_from_slice(&(offset as u64).to_le_bytes());
         entry[8..].copy_from_slice(&pool[offset..offset + 8]);

@@ -6,6 +6,7 @@ pub struct Library {
     pub scrub: fn(&[u8]) -> Counts,
     pub repair: fn(&mut [u8], &[u16]) -> usize,
     pub check: fn(&[u8]) -> u32,
+    begin: fn() -> Transaction,
     pub allocate: fn(Transaction, &[u8], &mut [u8], u32, &[u8]) -> Reply,
     pub write: fn(Transaction, &[u8], &mut [u8], usize, usize, &[u8]) -> Reply,
     pub free: fn(Transaction, &[u8], &mut [u8], usize) -> Reply,
@@ -21,6 +22,7 @@ macro_rules! library {
             scrub: $from::scrub,
             repair: $from::repair,
             check: $from::check,
+            begin: $from::begin,
             allocate: $from::allocate,
             write: $from::write,
             free: $from::free,
@@ -36,6 +38,11 @@ library!(PROVED, linked);
 library!(PLAIN, reference);
 
 impl Library {
+    /// A fresh transaction over this pool.
+    pub fn open(&self, _pool: &[u8]) -> Transaction {
+        (self.begin)()
+    }
+
     /// Commits to the end; the number of steps.
     pub fn save(&self, t: Transaction, pool: &mut [u8], staging: &[u8]) -> usize {
         let mut reply = (self.commit)(t, pool, staging);

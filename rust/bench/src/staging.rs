@@ -3,7 +3,7 @@ use crate::fixture::{filled, nearly_full, staged, target, Pool, Shape, LARGEST, 
 use crate::library::{Library, PLAIN, PROVED};
 use crate::measure::best;
 use crate::report::{Row, Unit};
-use reference::{begin, Reply, Transaction, REFUSED};
+use reference::{Reply, Transaction, REFUSED};
 use std::hint::black_box;
 
 const BODY: [u8; 120] = [0x5A; 120];
@@ -80,7 +80,7 @@ pub fn growth() -> Vec<Row> {
 /// The staged entries lie apart from the words that the call touches, so that each call meets the same.
 fn row(call: Call, shape: Shape, pool: &Pool, count: usize, what: &str, size: String) -> Row {
     let mut staging = [0; 2032];
-    let touched = call.make(&PLAIN, begin(), pool, &mut staging).transaction.count;
+    let touched = call.make(&PLAIN, PLAIN.open(pool), pool, &mut staging).transaction.count;
     let avoid: Vec<usize> = (0..touched).map(|i| target(&staging, i)).collect();
     let (t, staging) = staged(shape, pool, count, &avoid);
     let mut copies = [staging; 2];

@@ -1,4 +1,5 @@
 //! The calls of the boundary as values, made on the library and on the reference with everything compared.
+use crate::staged::begin;
 use linked::{Counts, Part, Recovery, RecoveryReply, Reply, Transaction};
 
 /// What calls are given and change.
@@ -8,6 +9,18 @@ pub struct Given {
     pub staging: Vec<u8>,
     pub transaction: Transaction,
     pub recovery: Recovery,
+}
+
+impl Given {
+    /// With a fresh transaction.
+    pub fn new(pool: Vec<u8>, staging: Vec<u8>, recovery: Recovery) -> Given {
+        Given { transaction: begin(&pool), pool, staging, recovery }
+    }
+
+    /// A fresh transaction in place of the one that was there.
+    pub fn begin(&mut self) {
+        self.transaction = begin(&self.pool);
+    }
 }
 
 #[derive(Clone, Debug)]

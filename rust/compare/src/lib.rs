@@ -1,5 +1,6 @@
 //! What the tests of the proved library share.
 pub mod calls;
+pub mod code;
 pub mod driver;
 pub mod judge;
 pub mod layout;

@@ -7,6 +7,11 @@ use linked::{Transaction, ADDRESS, TAKEN};
 /// Bytes of staging memory that a transaction needs.
 pub const STAGING: usize = 2032;
 
+/// A fresh transaction of the library over this pool.
+pub fn begin(_pool: &[u8]) -> Transaction {
+    linked::begin()
+}
+
 /// A change to be staged.
 #[derive(Clone, Debug)]
 pub enum Change {
@@ -24,9 +29,9 @@ pub struct Staged {
 }
 
 impl Staged {
-    /// A fresh transaction over a pool with these objects.
-    pub fn new(old: &[Object]) -> Staged {
-        Staged { transaction: linked::begin(), staging: vec![0; STAGING], new: old.to_vec(), refused: 0 }
+    /// A fresh transaction over a pool, which has these objects.
+    pub fn new(pool: &[u8], old: &[Object]) -> Staged {
+        Staged { transaction: begin(pool), staging: vec![0; STAGING], new: old.to_vec(), refused: 0 }
     }
 
     /// Stages a change; a refused one alters nothing.

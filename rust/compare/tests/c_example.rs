@@ -56,6 +56,29 @@ macro_rules! layout {
     };
 }
 
+/// The refusals of the paper's two tables by their names in the header.
+const REFUSALS: [(&str, usize); 19] = [
+    ("SHAPE", 1),
+    ("LENGTH", 2),
+    ("NO_HEADER", 3),
+    ("HEADERS_DIFFER", 4),
+    ("ADDRESS", 5),
+    ("BODY", 6),
+    ("RANGE", 7),
+    ("LOSS_LIST", 8),
+    ("STAGING", 9),
+    ("RECORD", 10),
+    ("SEALED", 21),
+    ("NO_LOG", 22),
+    ("BROKEN", 23),
+    ("NO_OBJECT", 24),
+    ("DAMAGED", 25),
+    ("NO_ROOM", 26),
+    ("TOO_MANY", 27),
+    ("TWO_LOST", 28),
+    ("PHASE", 29),
+];
+
 #[test]
 fn structs_and_numbers_are_the_same() {
     let mut same: Vec<(String, usize)> = Vec::new();
@@ -68,7 +91,11 @@ fn structs_and_numbers_are_the_same() {
     let kinds = ["REFUSED", "ADDRESS", "TAKEN", "STARTED", "STORED", "BARRIER", "DONE"];
     let numbers = [linked::REFUSED, linked::ADDRESS, linked::TAKEN, linked::STARTED, linked::STORED, linked::BARRIER, linked::DONE];
     same.extend(kinds.into_iter().zip(numbers).map(|(kind, number)| (format!("POOL_{kind}"), number)));
-    same.extend([("POOL_STAGING", 2032), ("POOL_BODY", 496)].map(|(name, number)| (name.to_string(), number)));
+    let header = fs::read_to_string(repository().join("include/pool.h")).unwrap();
+    assert_eq!(header.matches("\n    POOL_REFUSED_").count(), REFUSALS.len());
+    same.extend(REFUSALS.map(|(name, number)| (format!("POOL_REFUSED_{name}"), number)));
+    let limits = [("STAGING", 2032), ("BODY", 496), ("ENTRIES", 127), ("INTERFACE_VERSION", 1)];
+    same.extend(limits.map(|(name, number)| (format!("POOL_{name}"), number)));
     same.extend([("2, 2, 1", 6144), ("15, 64, 16", 4_198_912)].map(|(shape, length)| (format!("POOL_SIZE({shape})"), length)));
 
     let mut program = "#include <stdio.h>\n#include \"pool.h\"\nint main(void)\n{\n".to_string();

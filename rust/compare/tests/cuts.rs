@@ -122,7 +122,7 @@ fn has_seal(image: &Image) -> bool {
 }
 
 fn staged(pool: &[u8], changes: &[Change]) -> Staged {
-    let mut staged = Staged::new(&objects(pool).expect("the pool is sound"));
+    let mut staged = Staged::new(pool, &objects(pool).expect("the pool is sound"));
     for change in changes {
         staged.stage(pool, change);
     }
@@ -208,7 +208,7 @@ fn transactions_in_turn_with_random_cuts() {
 
 fn random_transaction(random: &mut Random, counts: &mut Counts, pool: Vec<u8>) -> Vec<u8> {
     let old = objects(&pool).expect("the pool is sound");
-    let mut staged = Staged::new(&old);
+    let mut staged = Staged::new(&pool, &old);
     for _ in 0..random.from_to(1, 6) {
         let change = change(random, &staged.new);
         staged.stage(&pool, &change);

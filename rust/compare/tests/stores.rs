@@ -1,52 +1,98 @@
 //! A step stores one word of the pool, with one instruction. The proof speaks of eight byte assignments; that the memory keeps or loses
-//! them whole rests on the compiler having made one store of them, which is read here off the compiled code.
-use std::process::Command;
+//! them whole rests on the compiler having made one store of them, which is read here off the compiled code of the two step functions.
+//!
+//! Looked at is every instruction of the function and of all functions that it calls, in turn. A write goes to the stack frame, or through
+//! the pointer under which the caller wants the answer, or it counts as a store, through whatever register. Each function called must be one
+//! of the library's own (so neither memcpy nor memset), must make no store, and must be given a place in the caller's frame for its answer.
+//! An instruction of which it is not known whether it writes fails the test.
+use compare::code::{effects, functions, parsed, Functions};
+use std::collections::BTreeSet;
+use std::mem::size_of;
 
-/// The instructions of a function of the library, each with its operands, in AT&T syntax: what is written comes last.
-fn instructions(function: &str) -> Vec<(String, String)> {
-    let disassemble = format!("--disassemble={function}");
-    let output = Command::new("objdump").args(["-d", "--no-show-raw-insn", &disassemble, linked::ARCHIVE]).output().expect("objdump runs");
-    let text = String::from_utf8(output.stdout).expect("text");
-    let lines = text.lines().filter_map(|line| line.split_once(":\t"));
-    lines
-        .map(|(_, instruction)| instruction.split_once(' ').unwrap_or((instruction, "")))
-        .map(|(name, operands)| (name.into(), operands.trim().into()))
-        .collect()
+/// The functions called, in turn, make no store.
+fn calls_make_no_store(functions: &Functions, caller: &str, seen: &mut BTreeSet<String>) {
+    for (callee, answers_in_frame) in effects(functions, caller).calls {
+        assert!(functions.contains_key(&callee), "{caller} calls {callee}, which is not the library's");
+        let does = effects(functions, &callee);
+        assert!(does.others.is_empty(), "{callee}, called by {caller}, writes {:?}", does.others);
+        assert!(does.result.is_empty() || answers_in_frame, "{callee}, called by {caller}, does not answer in its frame");
+        if seen.insert(callee.clone()) {
+            calls_make_no_store(functions, &callee, seen);
+        }
+    }
 }
 
-/// Where an instruction writes, if that is memory and not the stack.
-fn written<'a>(name: &str, operands: &'a str) -> Option<&'a str> {
-    let reads_only = ["cmp", "test", "nop", "lea", "j", "call", "data16", "cs", "ucomis"].iter().any(|prefix| name.starts_with(prefix));
-    let last = operands.rfind('(').filter(|_| operands.ends_with(')') && !reads_only)?;
-    let start = operands[..last].rfind(',').map_or(0, |comma| comma + 1);
-    let place = &operands[start..];
-    (!place.contains("(%rsp") && !place.contains("(%rbp")).then_some(place)
-}
-
-fn writes_one_word(function: &str) {
-    let instructions = instructions(function);
-    assert!(instructions.len() > 20, "{function} was not found");
-    let writes: Vec<_> = instructions.iter().filter_map(|(name, operands)| Some((name, operands, written(name, operands)?))).collect();
-    // The reply is four numbers, at 0, 8, 16 and 24 of one register.
-    let end = writes.iter().find_map(|(_, _, place)| place.strip_prefix("0x18(")).expect("the reply's last number");
-    let reply: Vec<String> = ["", "0x8", "0x10", "0x18"].iter().map(|at| format!("{at}({end}")).collect();
-    let others: Vec<_> = writes.iter().filter(|(_, _, place)| !reply.iter().any(|number| number == place)).collect();
-    assert_eq!(others.len(), 1, "{function} writes {others:?}");
-    let (name, operands, place) = others[0];
-    println!("{function}: {name} {operands}");
-    let word = ["rax", "rbx", "rcx", "rdx", "rsi", "rdi", "r8,", "r9,", "r10,", "r11,", "r12,", "r13,", "r14,", "r15,"];
-    assert!(
-        name.as_str() == "mov" && word.iter().any(|register| operands.starts_with(&format!("%{register}"))),
-        "{name} {operands} to {place}"
-    );
+fn writes_one_word(function: &str, answer: usize) {
+    let functions = functions(linked::ARCHIVE);
+    let does = effects(&functions, function);
+    assert!(does.result.len() * 8 >= answer, "{function} answers {:?}", does.result);
+    let [store] = &does.others[..] else { panic!("{function} writes {:?}", does.others) };
+    let word = ["rax", "rbx", "rcx", "rdx", "rsi", "rdi", "rbp", "r8", "r9", "r10", "r11", "r12", "r13", "r14", "r15"];
+    assert!(store.name == "mov" && word.iter().any(|register| store.operands[0] == format!("%{register}")), "{store:?}");
+    let mut called = BTreeSet::new();
+    calls_make_no_store(&functions, function, &mut called);
+    println!("{function}: {} {}; calls {called:?}", store.name, store.operands.join(","));
 }
 
 #[test]
 fn a_commit_step_stores_one_word() {
-    writes_one_word("pool_commit_step");
+    writes_one_word("pool_commit_step", size_of::<linked::Reply>());
 }
 
 #[test]
 fn a_recovery_step_stores_one_word() {
-    writes_one_word("pool_recover_step");
+    writes_one_word("pool_recover_step", size_of::<linked::RecoveryReply>());
+}
+
+/// Functions that write more are found out: through other registers, and by calls of memset and memcpy.
+#[test]
+fn more_stores_are_seen() {
+    let functions = functions(linked::ARCHIVE);
+    assert!(effects(&functions, "pool_allocate").others.len() > 1);
+    for (function, callee) in [("pool_format", "memset"), ("pool_mend", "memcpy")] {
+        assert!(effects(&functions, function).calls.iter().any(|(name, _)| name == callee), "{function} calls {callee}");
+        assert!(!functions.contains_key(callee));
+    }
+}
+
+/// Two words through other registers, one of them by way of the stack; then a pointer that is the answer's on one way only.
+#[test]
+fn writes_are_told_apart() {
+    let functions = parsed(
+        "0000000000000000 <two>:
+   0:\tsub    $0x10,%rsp
+   4:\tmov    %rdi,(%rsp)
+   8:\tmov    %rsi,0x8(%rsp)
+   d:\tmov    (%rsp),%rax
+  11:\tmov    %rdx,0x8(%rax)
+  15:\tmov    0x8(%rsp),%rax
+  1a:\tmov    %rdx,0x8(%rax)
+  1e:\tmovb   $0x1,(%rcx,%rdx,1)
+  22:\tadd    $0x10,%rsp
+  26:\tret
+0000000000000000 <either>:
+   0:\tmov    %rdi,%rbx
+   3:\ttest   %rdx,%rdx
+   6:\tje     b <either+0xb>
+   8:\tmov    %rsi,%rbx
+   b:\tmov    %rdx,(%rbx)
+   e:\tret
+",
+    );
+    for (function, result, others) in [("two", 1, 2), ("either", 0, 1)] {
+        let does = effects(&functions, function);
+        assert_eq!((does.result.len(), does.others.len()), (result, others), "{function}: {does:?}");
+    }
+}
+
+#[test]
+#[should_panic(expected = "not known whether it writes")]
+fn an_unknown_instruction_is_refused() {
+    effects(&parsed("0000000000000000 <fill>:\n   0:\trep stos %rax,%es:(%rdi)\n   3:\tret\n"), "fill");
+}
+
+#[test]
+#[should_panic(expected = "was not found")]
+fn a_missing_function_is_refused() {
+    effects(&functions(linked::ARCHIVE), "pool_no_such_step");
 }

@@ -24,6 +24,7 @@ impl Sums {
             if high >= MODULUS {
                 high -= MODULUS;
             }
+            debug_assert!(low < MODULUS && high < MODULUS, "each sum is kept below 65521");
         }
         Sums { low, high }
     }

@@ -22,6 +22,7 @@ pub fn header(shape: Shape, id: u64) -> [u8; PAGE] {
     page[ID..ID + WORD].copy_from_slice(&id.to_le_bytes());
     let sum = check(&page[..CHECK]);
     page[CHECK..REST].copy_from_slice(&sum.to_le_bytes());
+    debug_assert!(valid(&page).is_some());
     page
 }
 

@@ -9,6 +9,7 @@ const MARK: u64 = 0xA51C;
 /// The seal of these entries.
 pub fn seal(entries: &[u8]) -> u64 {
     let count = (entries.len() / ENTRY) as u64;
+    debug_assert!((1..=Shape::ENTRIES as u64).contains(&count));
     MARK << 48 | count << 32 | u64::from(check(entries))
 }
 

@@ -27,6 +27,7 @@ pub fn format(pool: &mut [u8], rows: usize, cols: usize, zones: usize, id: u64) 
             put_word(pool, head + WORD, second);
         }
     }
+    debug_assert_eq!(scrub(pool), Counts { refusal: 0, objects: 0, damaged: 0, broken: 0, columns: 0 });
     0
 }
 
@@ -56,6 +57,7 @@ pub fn repair(pool: &mut [u8], lost: &[u16]) -> usize {
         let sum = column_sum(pool, shape, zone, column, mask);
         let row = mask.trailing_zeros() as usize;
         pool[page(shape, zone, column, row)..][..PAGE].copy_from_slice(&sum);
+        debug_assert_eq!(column_sum(pool, shape, zone, column, 0), [0; PAGE], "parity is right");
     }
     0
 }

@@ -67,6 +67,14 @@ impl Transaction {
     pub(crate) const CLOSED: usize = 1;
     pub(crate) const COMMITTING: usize = 2; // plus the number of steps made
 
+    /// The steps of its commit; an empty transaction is done in none.
+    pub(crate) fn steps(self) -> usize {
+        match self.count {
+            0 => 0,
+            n => 6 * n + 9,
+        }
+    }
+
     pub(crate) fn reply(self, kind: usize, value: usize) -> Reply {
         Reply { kind, value, transaction: self }
     }

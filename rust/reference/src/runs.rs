@@ -109,6 +109,7 @@ pub fn walk<W: Words + ?Sized>(words: &W, shape: Shape, zone: usize, mut visit: 
         cell += head.cells;
         after_free = head.is_free();
     }
+    debug_assert_eq!(cell, cells, "runs cover a zone to its last cell");
     true
 }
 

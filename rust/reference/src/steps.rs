@@ -12,14 +12,6 @@ use crate::writeset::{new_word, target};
 /// A step: the offset and the word that it stores, or a barrier.
 type Step = Option<(usize, u64)>;
 
-/// The steps of a commit of n entries; an empty transaction is done in none.
-pub fn commit_steps(n: usize) -> usize {
-    match n {
-        0 => 0,
-        _ => 6 * n + 9,
-    }
-}
-
 /// Part 1: each entry in turn, its two words in A, then in B. Barrier. Part 2: seal A, seal B. Barrier.
 fn commit_at(place: usize, shape: Shape, pool: &[u8], entries: &[u8]) -> Step {
     let n = entries.len() / ENTRY;
@@ -55,6 +47,7 @@ fn clear_at(place: usize) -> Step {
 /// Makes the step. Its kind; "done" is said only after the last.
 fn make(pool: &mut [u8], step: Step, last: bool) -> usize {
     if let Some((offset, word)) = step {
+        debug_assert!(offset.is_multiple_of(WORD), "a store is aligned");
         put_word(pool, offset, word);
     }
     match step {
@@ -69,7 +62,7 @@ pub fn commit_step(t: Transaction, pool: &mut [u8], staging: &[u8]) -> Reply {
         Ok(next) => next,
         Err(refusal) => return t.reply(REFUSED, refusal),
     };
-    let last = place + 1 == commit_steps(t.count);
+    let last = place + 1 == t.steps();
     let kind = make(pool, step, last);
     let phase = if last { Transaction::CLOSED } else { t.phase + 1 };
     Transaction { phase, ..t }.reply(kind, place + 1)

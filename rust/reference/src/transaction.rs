@@ -4,9 +4,8 @@ use crate::checksum::updated;
 use crate::header::{open, unsealed};
 use crate::layout::{word, Shape, CELL, ENTRY, HEAD, WORD};
 use crate::records::{Reply, Transaction, ADDRESS, DONE, REFUSED, STARTED, TAKEN};
-use crate::refusal::{BODY, BROKEN, DAMAGED, IMPOSSIBLE, NO_ROOM, RANGE, STAGING, STATE, TOO_MANY};
+use crate::refusal::{BODY, BROKEN, DAMAGED, IMPOSSIBLE, NO_OBJECT, NO_ROOM, RANGE, STAGING, STATE, TOO_MANY};
 use crate::runs::{cells_for, find, walk, Head, Place, Run};
-use crate::steps::commit_steps;
 use crate::writeset::{targets_fit, WriteSet};
 
 /// A fresh transaction: open, without entries.
@@ -73,7 +72,7 @@ fn judge_counts(t: Transaction, staging: &[u8]) -> Result<(), usize> {
         return Err(IMPOSSIBLE);
     }
     match t.phase.checked_sub(Transaction::COMMITTING) {
-        Some(place) if place >= commit_steps(t.count) => Err(IMPOSSIBLE),
+        Some(place) if place >= t.steps() => Err(IMPOSSIBLE),
         _ => Ok(()),
     }
 }
@@ -112,6 +111,7 @@ fn stage_object(shape: Shape, mut set: WriteSet, tag: u32, body: &[u8]) -> Resul
     if remain > 0 {
         touch_head(&mut set, end, Head::new_free(remain));
     }
+    debug_assert!(set.targets_fit(shape) && walk(&set, shape, zone, |_| ()));
     Ok((set.count, zone * shape.zone_cells() + run.cell))
 }
 
@@ -157,6 +157,7 @@ fn stage_range(shape: Shape, mut set: WriteSet, address: usize, at: usize, bytes
     for place in touched {
         set.touch(offset + place, word(&buffer, place));
     }
+    debug_assert!(set.targets_fit(shape) && find_undamaged(shape, &set, address, &mut buffer).is_ok());
     Ok(set.count)
 }
 
@@ -173,6 +174,7 @@ fn stage_free(shape: Shape, mut set: WriteSet, address: usize) -> Result<usize, 
     }
     let joined = cells(before) + object.head.cells + cells(after);
     touch_head(&mut set, offset, Head::new_free(joined));
+    debug_assert!(set.targets_fit(shape) && find(&set, shape, address).err() == Some(NO_OBJECT), "the zone is whole, the object gone");
     Ok(set.count)
 }
 

@@ -69,6 +69,7 @@ impl Index {
 pub struct WriteSet<'a> {
     pool: &'a [u8],
     staging: &'a mut [u8],
+    before: usize, // entries of earlier calls
     pub count: usize,
     index: Index,
 }
@@ -79,7 +80,7 @@ impl<'a> WriteSet<'a> {
         let entries = &staging[..count * ENTRY];
         let fit = entries.chunks_exact(ENTRY).all(|entry| shape.is_target(word(entry, 0)));
         let index = Index::new(entries)?;
-        fit.then_some(WriteSet { pool, staging, count, index })
+        fit.then_some(WriteSet { pool, staging, before: count, count, index })
     }
 
     fn find(&self, offset: usize) -> Option<usize> {
@@ -97,12 +98,19 @@ impl<'a> WriteSet<'a> {
         let slot = self.index.slot(self.staging, offset as u64);
         let i = self.index.entry(slot).unwrap_or_else(|| {
             let added = self.count;
+            debug_assert!(added < Shape::ENTRIES, "at most 127 entries");
+            debug_assert!(added == self.before || target(self.staging, added - 1) < offset as u64, "ascending within a call");
             put_word(self.staging, added * ENTRY, offset as u64);
             self.index.slots[slot] = added as u8 + 1;
             self.count += 1;
             added
         });
         put_word(self.staging, i * ENTRY + WORD, word);
+    }
+
+    /// Whether the entries may be committed, as they always may.
+    pub fn targets_fit(&self, shape: Shape) -> bool {
+        targets_fit(shape, &self.staging[..self.count * ENTRY])
     }
 
     /// Fills the buffer with the words from this offset on.

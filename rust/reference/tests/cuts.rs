@@ -1,5 +1,8 @@
 //! Random runs with power cuts: after recovery all objects are old or new, and new if a seal reached memory.
 
+mod common;
+
+use common::open;
 use reference::*;
 use std::collections::BTreeMap;
 
@@ -136,7 +139,7 @@ fn random_runs() {
         let (mut cut_runs, mut new_runs) = (0, 0);
         for _ in 0..400 {
             let old = book(&pool, cells);
-            let (mut new, mut staging, mut t) = (old.clone(), vec![0; 2032], begin());
+            let (mut new, mut staging, mut t) = (old.clone(), vec![0; 2032], open(&pool));
             for _ in 0..random.below(8) {
                 t = call(t, &pool, &mut staging, &mut random, cells, &mut new);
             }

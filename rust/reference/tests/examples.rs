@@ -1,5 +1,8 @@
 //! The bench examples of document 01.
 
+mod common;
+
+use common::open;
 use reference::*;
 
 const LENGTH: usize = 6144; // R 2, C 2, Z 1
@@ -48,7 +51,7 @@ fn recover_all(pool: &mut [u8]) -> usize {
 /// The pool with the tag 5 object, body hex 61.
 fn with_object() -> Vec<u8> {
     let (mut pool, mut staging) = (fresh(), [0; 2032]);
-    let reply = allocate(begin(), &pool, &mut staging, 5, b"a");
+    let reply = allocate(open(&pool), &pool, &mut staging, 5, b"a");
     assert_eq!((reply.kind, reply.value, reply.transaction.count), (ADDRESS, 0, 10));
     assert_eq!(save(reply.transaction, &mut pool, &staging), 69);
     pool
@@ -107,13 +110,13 @@ fn object_with_tag_5() {
     assert_eq!(look(&pool, 0), Part { refusal: 0, offset: FIRST_CELL + 16, length: 1 });
     assert_eq!(scrub(&pool), sound(1));
 
-    let reply = write(begin(), &pool, &mut staging, 0, 0, b"b");
+    let reply = write(open(&pool), &pool, &mut staging, 0, 0, b"b");
     assert_eq!((reply.kind, reply.value, reply.transaction.count), (TAKEN, 0, 2));
     assert_eq!(save(reply.transaction, &mut pool, &staging), 21);
     assert_eq!(head_check(&pool, 0), 0x00B6_006C);
     assert_eq!(scrub(&pool), sound(1));
 
-    let reply = free(begin(), &pool, &mut staging, 0);
+    let reply = free(open(&pool), &pool, &mut staging, 0);
     assert_eq!((reply.kind, reply.value, reply.transaction.count), (TAKEN, 0, 2));
     assert_eq!(save(reply.transaction, &mut pool, &staging), 21);
     assert_eq!(pool[FIRST_CELL..][..16], fresh()[FIRST_CELL..][..16]);
@@ -124,7 +127,7 @@ fn object_with_tag_5() {
 fn cells_of_a_body() {
     for (length, cells) in [(48, 1), (49, 2), (496, 8)] {
         let (pool, mut staging) = (fresh(), [0; 2032]);
-        let reply = allocate(begin(), &pool, &mut staging, 0, &vec![7; length]);
+        let reply = allocate(open(&pool), &pool, &mut staging, 0, &vec![7; length]);
         assert_eq!(reply.transaction.count, cells * 8 + 2);
     }
 }
@@ -133,7 +136,7 @@ fn cells_of_a_body() {
 fn words_of_two_bodies() {
     for (second, kind, value, count) in [(432, ADDRESS, 8, 122), (433, REFUSED, 27, 66)] {
         let (pool, mut staging) = (fresh(), [0; 2032]);
-        let reply = allocate(begin(), &pool, &mut staging, 1, &[1; 496]);
+        let reply = allocate(open(&pool), &pool, &mut staging, 1, &[1; 496]);
         assert_eq!((reply.kind, reply.value, reply.transaction.count), (ADDRESS, 0, 66));
         let before = staging;
         let reply = allocate(reply.transaction, &pool, &mut staging, 2, &vec![2; second]);
@@ -147,7 +150,7 @@ fn words_of_two_bodies() {
 #[test]
 fn steps_of_a_commit() {
     let (mut pool, mut staging) = (fresh(), [0; 2032]);
-    let t = allocate(begin(), &pool, &mut staging, 5, b"a").transaction;
+    let t = allocate(open(&pool), &pool, &mut staging, 5, b"a").transaction;
     let mut t = commit(t, &pool, &staging).transaction;
     for number in 1..=69 {
         let before = pool.clone();
@@ -172,7 +175,7 @@ fn steps_of_a_commit() {
 #[test]
 fn cut_with_seal_a() {
     let (mut pool, mut staging) = (fresh(), [0; 2032]);
-    let t = allocate(begin(), &pool, &mut staging, 5, b"a").transaction;
+    let t = allocate(open(&pool), &pool, &mut staging, 5, b"a").transaction;
     let mut reply = commit(t, &pool, &staging);
     while reply.value < 42 {
         reply = commit_step(reply.transaction, &mut pool, &staging);

@@ -1,15 +1,17 @@
 //! Refusals in the order of document 01, and what a refused call leaves.
 
+mod common;
+
+use common::open;
 use reference::*;
 
 const ZONE: usize = 18 * 256;
-const OPEN: Transaction = Transaction { count: 0, phase: 0 };
 
 /// R 2, C 2, Z 1 with three objects of one cell, 0 to 2, then a free run.
 fn pool() -> Vec<u8> {
     let (mut pool, mut staging) = (vec![0; 6144], [0; 2032]);
     assert_eq!(format(&mut pool, 2, 2, 1, 7), 0);
-    let mut t = begin();
+    let mut t = open(&pool);
     for tag in 0..3 {
         t = allocate(t, &pool, &mut staging, tag, &[tag as u8; 20]).transaction;
     }
@@ -58,24 +60,25 @@ fn headers() {
 #[test]
 fn objects() {
     let (whole, mut staging) = (pool(), [0; 2032]);
+    let t = open(&whole);
     assert_eq!(look(&whole, 16).refusal, 5);
     assert_eq!(look(&whole, 3).refusal, 24);
     assert_eq!(look(&whole, 4).refusal, 24);
-    assert_eq!(write(OPEN, &whole, &mut staging, 1, 20, &[]), refused(OPEN, 7));
-    assert_eq!(write(OPEN, &whole, &mut staging, 1, 1, &[0; 20]), refused(OPEN, 7));
-    assert_eq!(write(OPEN, &whole, &mut staging, 1, usize::MAX, &[0; 2]), refused(OPEN, 7));
-    assert_eq!(allocate(OPEN, &whole, &mut staging, 0, &[]), refused(OPEN, 6));
-    assert_eq!(allocate(OPEN, &whole, &mut staging, 0, &[0; 497]), refused(OPEN, 6));
+    assert_eq!(write(t, &whole, &mut staging, 1, 20, &[]), refused(t, 7));
+    assert_eq!(write(t, &whole, &mut staging, 1, 1, &[0; 20]), refused(t, 7));
+    assert_eq!(write(t, &whole, &mut staging, 1, usize::MAX, &[0; 2]), refused(t, 7));
+    assert_eq!(allocate(t, &whole, &mut staging, 0, &[]), refused(t, 6));
+    assert_eq!(allocate(t, &whole, &mut staging, 0, &[0; 497]), refused(t, 6));
     let mut damaged = whole.clone();
     damaged[ZONE + 64 + 16] ^= 1;
     assert_eq!(look(&damaged, 1).refusal, 25);
-    assert_eq!(write(OPEN, &damaged, &mut staging, 1, 0, &[]), refused(OPEN, 25));
-    assert_eq!(free(OPEN, &damaged, &mut staging, 1), refused(OPEN, 25));
+    assert_eq!(write(t, &damaged, &mut staging, 1, 0, &[]), refused(t, 25));
+    assert_eq!(free(t, &damaged, &mut staging, 1), refused(t, 25));
     assert_eq!(scrub(&damaged), Counts { refusal: 0, objects: 3, damaged: 1, broken: 0, columns: 1 });
     let mut broken = whole.clone();
     broken[ZONE + 128] = 9;
     assert_eq!(look(&broken, 0).refusal, 23);
-    assert_eq!(allocate(OPEN, &broken, &mut staging, 0, &[1]), refused(OPEN, 23));
+    assert_eq!(allocate(t, &broken, &mut staging, 0, &[1]), refused(t, 23));
     assert_eq!(scrub(&broken), Counts { refusal: 0, objects: 2, damaged: 0, broken: 1, columns: 1 });
     assert_eq!(staging, [0; 2032]);
 }
@@ -84,22 +87,23 @@ fn objects() {
 fn no_room() {
     let (mut pool, mut staging) = (vec![0; (18 + 2 * 2) * 256], [0; 2032]);
     assert_eq!(format(&mut pool, 1, 1, 2, 7), 0);
-    assert_eq!(allocate(begin(), &pool, &mut staging, 0, &[0; 241]), refused(begin(), 26));
-    let t = allocate(begin(), &pool, &mut staging, 0, &[0; 240]).transaction;
+    let fresh = open(&pool);
+    assert_eq!(allocate(fresh, &pool, &mut staging, 0, &[0; 241]), refused(fresh, 26));
+    let t = allocate(fresh, &pool, &mut staging, 0, &[0; 240]).transaction;
     let reply = allocate(t, &pool, &mut staging, 0, &[0; 240]);
     assert_eq!((reply.kind, reply.value), (ADDRESS, 4));
     let t = reply.transaction;
     assert_eq!(allocate(t, &pool, &mut staging, 0, &[0]), refused(t, 26));
     // A break in the zone behind the fit is not met; one before it is.
     pool[18 * 256 + 512] = 0;
-    assert_eq!(allocate(begin(), &pool, &mut staging, 0, &[0; 240]).kind, ADDRESS);
-    assert_eq!(allocate(begin(), &pool, &mut staging, 0, &[0; 241]), refused(begin(), 23));
+    assert_eq!(allocate(fresh, &pool, &mut staging, 0, &[0; 240]).kind, ADDRESS);
+    assert_eq!(allocate(fresh, &pool, &mut staging, 0, &[0; 241]), refused(fresh, 23));
 }
 
 #[test]
 fn joins() {
     let (whole, mut staging) = (pool(), [0; 2032]);
-    let mut t = begin();
+    let mut t = open(&whole);
     for address in [0, 2, 1] {
         t = free(t, &whole, &mut staging, address).transaction;
     }
@@ -115,7 +119,7 @@ fn joins() {
 #[test]
 fn records() {
     let (mut whole, mut staging) = (pool(), [0; 2032]);
-    let t = free(begin(), &whole, &mut staging, 1).transaction;
+    let t = free(open(&whole), &whole, &mut staging, 1).transaction;
     for phase in [1, 2, 22] {
         let t = Transaction { phase, ..t };
         assert_eq!(free(t, &whole, &mut staging, 0), refused(t, 29));
@@ -143,7 +147,7 @@ fn records() {
 #[test]
 fn seals() {
     let (mut whole, mut staging) = (pool(), [0; 2032]);
-    let t = free(begin(), &whole, &mut staging, 1).transaction;
+    let t = free(open(&whole), &whole, &mut staging, 1).transaction;
     let started = commit(t, &whole, &staging).transaction;
     whole[2 * 256] = 1;
     assert_eq!(look(&whole, 99).refusal, 21);

@@ -93,10 +93,11 @@ def names():
     known = set(ALLOWED)
     for pattern in SOURCES:
         for file in ROOT.glob(pattern):
-            if file.is_file() and "target" not in file.relative_to(ROOT).parts and file.name not in ("check_docs.py", "pictures.py"):
-                known.update(WORD.findall(code(file)))
-                known.update(file.relative_to(ROOT).parts)
-                known.add(file.stem)
+            parts = file.relative_to(ROOT).parts
+            if file.is_file() and "target" not in parts:
+                known.update(parts + (file.stem,))
+                if file.name not in ("check_docs.py", "pictures.py"):
+                    known.update(WORD.findall(code(file)))
     for doc in DOCS:
         for at, span in spans(doc):
             for name in WORD.findall(re.sub(r"\b0x[0-9a-fA-F]+", "", span)):

@@ -23,6 +23,7 @@ ALLOWED = set("""
 """.split())
 # Files that belong to others, and what the build makes.
 ELSEWHERE = {"isa-l.h", "libpmemobj.h", "libpool_c.a"}
+PATH = re.compile(rf"(?<![\w./*-])[\w.-]+(?:/[\w.-]+)*\.{ENDINGS}\b(?![\w(/])|(?<![\w./-])(?:crates|rust|docs|tools|include|examples)/[\w./-]*")
 WORD = re.compile(r"[A-Za-z_][A-Za-z0-9_']*(?:-[A-Za-z0-9_']+)*")
 
 
@@ -74,7 +75,7 @@ def files():
     for doc in DOCS:
         for at, line in enumerate(text(doc).splitlines(), 1):
             plain = re.sub(r"\]\([^)]*\)|https?://\S+", "]", line)
-            for path in re.findall(rf"(?<![\w./*-])[\w.-]+(?:/[\w.-]+)*\.{ENDINGS}\b(?![\w(/])|(?<![\w./-])(?:crates|rust|docs|tools|include|examples)/[\w./-]*", plain):
+            for path in PATH.findall(plain):
                 path = path.rstrip(".")
                 if path.startswith("target/") or path in ELSEWHERE:
                     continue
@@ -100,7 +101,7 @@ def names():
                     known.update(WORD.findall(code(file)))
     for doc in DOCS:
         for at, span in spans(doc):
-            for name in WORD.findall(re.sub(r"\b0x[0-9a-fA-F]+", "", span)):
+            for name in WORD.findall(PATH.sub("", span)):
                 if name not in known:
                     yield f"{where(doc, at)}: `{name}` is not in the sources"
 

@@ -58,7 +58,7 @@ row stack "$([ "$most" -gt 0 ] && within stack "$most" "$most" || echo no)" "$(e
 
 others=$(grep -oE '%([yz]mm[0-9]+|mm[0-9]|st\b|k[0-7])' "$code" | sort -u)
 row registers "$([ -z "$others" ] && [ "$(grep -oE '%xmm[0-9]+' "$code" | sort -u | wc -l)" -le 16 ] && echo yes || echo no)" \
-  "$(grep -oE '%xmm[0-9]+' "$code" | sort -u | wc -l) of SSE2 $others"
+  "$(grep -oE '%xmm[0-9]+' "$code" | sort -u | wc -l) of SSE2 $(echo $others)"
 
 guards=$(grep -c $'\tud2' "$code")
 row ud2 "$([ "$guards" -le "$(stated '`ud2`' 3)" ] && echo yes || echo no)" "$guards places"

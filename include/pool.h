@@ -8,6 +8,15 @@
  * Bytes may lie at any address; but a pool that is to survive power cuts begins at a multiple of 8, so that the store of a step is one
  * aligned store of 8 bytes, which the memory keeps or loses whole.
  *
+ * At every power-up: pool_recover and its steps until POOL_DONE; then pool_mend, which stores nothing if both headers are valid, and a
+ * barrier; pool_scrub at leisure. A barrier is passed when every store made into the pool so far is in the memory that keeps its bytes
+ * without power: on a cached x86-64, clwb for each line stored to, then sfence. docs/DEVICE.md says more, docs/REFUSALS.md what to do
+ * when a call is refused.
+ *
+ * The library needs memcpy and memset, has no data, runs at any address, and takes at most 768 bytes of stack. It uses the SSE2
+ * registers, which interrupt code must save, and the 128 bytes below the stack pointer, which interrupt code must leave alone. Between
+ * two calls nothing is kept but what the caller holds.
+ *
  * A call that is refused changes nothing: no byte of the pool or of the staging memory, and it hands back the record that it was
  * given. If several refusals apply, the first is answered, in the order 1, 2 (under 512 bytes), 3, 4, 2 (length), 9, 10, 29, 21, 22, 6,
  * 8, 5, 23, 24, 25, 7, 26, 28, 27. Their names and meanings stand below.
@@ -17,6 +26,9 @@
 
 #include <stddef.h>
 #include <stdint.h>
+
+/* The library is compiled for a size_t of 8 bytes: a compiler that has another refuses the next line. */
+typedef char pool_size_t_has_8_bytes[sizeof(size_t) == 8 ? 1 : -1];
 
 #ifdef __cplusplus
 extern "C" {
@@ -75,6 +87,13 @@ enum {
  * The records of a transaction and of a recovery are opaque: a caller keeps what the last call handed back and gives it to the next. It
  * reads no field of theirs and makes none up; what the fields hold is said for those who look at one in a debugger, and may change with
  * POOL_INTERFACE_VERSION. In the replies and answers every field is to be read as documented.
+ */
+
+/*
+ * Answers have three forms, each the least that its call needs. pool_format, pool_mend and pool_repair have nothing to tell but the
+ * refusal: they answer its number, or 0. pool_look and pool_scrub answer numbers that can be 0 themselves: the refusal stands beside
+ * them, in a field of its own. The calls on a transaction or a recovery hand back the record and answer in several kinds: a kind, its
+ * value and the record. pool_begin and pool_check cannot be refused and answer what they make.
  */
 
 /*

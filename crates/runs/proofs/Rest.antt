@@ -187,22 +187,3 @@ pub whole-passed : {v : List ℕ} {from n c : ℕ} {a : Bool} {m : ℕ} {f : Boo
     → Passed v from n c a m f
 whole-passed z h w e =
     walk-passed z h e (λ q. let u : true ≡ false = sym w ∙ ap (λ (x : Walk). x .whole) (walk-broken z h e q) in let y : _≡_ {A = ℕ} 0 1 = cc in omega arith)
-
--- ---- the loop that judges a zone whole from cell b on
-
-pub record Judging (v : List ℕ) (from n b : ℕ) (g : Bool) (c : ℕ) (a : Bool) : Type 0 where
-  pub within : c ≤ n
-  pub whole : walkOn a (restOf v from n c) .whole ≡ walkOn g (restOf v from n b) .whole
-
-pub judging-start : (v : List ℕ) (from n : ℕ) {b : ℕ} (g : Bool) → b ≤ n → Judging v from n b g b g
-judging-start v from n g h = record { within = h; whole = refl }
-
-module _ {v : List ℕ} {from n b c : ℕ} {g a : Bool} (j : Judging v from n b g c a) where
-  pub judging-step : {m : ℕ} {f : Bool} → Passed v from n c a m f → Judging v from n b g (c + m) f
-  judging-step p = record { within = p .within; whole = sym (p .whole) ∙ j .whole }
-
-  pub judging-broken : {m : ℕ} {f : Bool} → Zoned v from n → c < n → Meets v from n c a m f → m ≡ 0 → false ≡ walkOn g (restOf v from n b) .whole
-  judging-broken z h e k = sym (ap (λ (w : Walk). w .whole) (walk-broken z h e k)) ∙ j .whole
-
-  pub judging-end : Zoned v from n → n ≤ c → true ≡ walkOn g (restOf v from n b) .whole
-  judging-end z h = sym (ap (λ (w : Walk). w .whole) (walk-end c a z h)) ∙ j .whole

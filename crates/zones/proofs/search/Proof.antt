@@ -1,17 +1,18 @@
 -- `zones::search` meets its contract. Assumes nothing.
-use Rattle.rules.specs.Plan.{fitted}
+use Rattle.rules.specs.Plan.{fitted, search as searchFrom}
 use Rattle.layout.specs.Reading.{shapeOf}
 use Rattle.stage.specs.View.{seen}
 use Rattle.stage.specs.Clear.{Clear}
 use Rattle.stage.proofs.Clear.{clear-empty, clear-later}
 use Prim.Native.Nat.{ℕ, _+_, _*_, _-_}
 use mathlib.Core.Logic.{⊎-elim}
-use mathlib.Core.Path.{ap₂, _∙_}
+use mathlib.Core.Path.{sym, ap₂, _∙_}
 use borrow.Author.Tests.{not-false, not-true}
 use Rattle.runs.specs.Rest.{Passed, Zoned}
 use Rattle.runs.proofs.Rest.{walk-passed, zoned-seen}
 use Rattle.zones.proofs.Shaped.{zone-inside}
-use Rattle.zones.proofs.Searching.{Inside, Outside, inside-broken, inside-broken-behind, inside-end, inside-hit, inside-pass, inside-start, outside-end, outside-start}
+use Rattle.runs.proofs.Walking.{Walking, walking-broken, walking-end, walking-start, walking-step}
+use Rattle.zones.proofs.Searching.{Outside, cellsFrom, inside-end, inside-hit, inside-pass, inside-start, outside-end, outside-start}
 use borrow.Author.Needs.{needs}
 use native.Mathlib.Omega.{arith}
 use Rattle.zones.proofs.search.Statement.{statement}
@@ -19,7 +20,8 @@ use Rattle.zones.proofs.search.Tie as tie
 
 abbrev Inv-loop : tie.InvT-loop
 Inv-loop pool staging count s k zones z c₀ n₀ place cells after₀ next₀ c n after next =
-    Inside (shapeOf s) (seen pool staging count) k z (place .from) (place .cells) c after × Clear staging count (place .from + 64 * c) next × Zoned pool (place .from) (place .cells)
+    Walking (cellsFrom (shapeOf s) (seen pool staging count) k z c) (searchFrom (shapeOf s) (seen pool staging count) k 0 (s .zones)) (seen pool staging count) (place .from) (place .cells) c after
+    × Clear staging count (place .from + 64 * c) next × Zoned pool (place .from) (place .cells)
 
 abbrev μ-loop : tie.MeasureT-loop
 μ-loop pool staging count s k zones z c₀ n₀ place cells after₀ next₀ c n after next = place .cells - c
@@ -39,7 +41,7 @@ zone-requires c κs = (c .before .before .before .before .pre .1 .range, c .sear
 loop-holds : tie.Need-loop-holds Inv-loop μ-loop Inv-search μ-search
 loop-holds c =
     let s = c .before .before .before .before .before in (
-      inside-start (c .before .before .search .inv) (c .before .search-test .taken) (c .zone .ensures),
+      walking-start _ _ _ (inside-start (c .before .before .search .inv) (c .before .search-test .taken) (c .zone .ensures)),
       clear-empty (s .args .staging .now) (s .args .count) (omega arith),
       zone-inside (s .args .s) (s .pre .1 .range) (s .pre .1 .size) (c .before .search-test .taken) (c .zone .ensures),
     )
@@ -51,7 +53,7 @@ returns : tie.Need-returns Inv-loop μ-loop Inv-search μ-search
 returns c =
     let s = c .before .before .before .before .before .before .before .before .before in
     let l = c .before .before .before .loop in
-    inside-broken (l .inv .0) (zoned-seen (s .args .staging .now) (s .args .count) (l .inv .2)) (c .before .before .loop-test .taken) (c .before .advance .ensures .0) (c .if1 .taken)
+    walking-broken (l .inv .0) (zoned-seen (s .args .staging .now) (s .args .count) (l .inv .2)) (c .before .before .loop-test .taken) (c .before .advance .ensures .0) (c .if1 .taken)
 
 fits-requires : tie.Need-fits-requires Inv-loop μ-loop Inv-search μ-search
 fits-requires c κs = search needs
@@ -76,7 +78,8 @@ whole-from-requires c κs =
 returns-2 : tie.Need-returns-2 Inv-loop μ-loop Inv-search μ-search
 returns-2 c =
     let h = c .before .before .before .before in
-    inside-broken-behind (h .before .before .before .loop .inv .0) (passed h) (c .before .whole-from .ensures) (not-true (c .before .whole-from .result) (c .if3 .taken))
+    let e = sym (c .before .whole-from .ensures) ∙ not-true (c .before .whole-from .result) (c .if3 .taken) in
+    rw e at (walking-step (h .before .before .before .loop .inv .0) (passed h) (inside-hit _ _ _ (passed h) (c .before .before .before .fits2 .ensures) (c .before .before .if2 .taken)) .rest)
 
 add-c : tie.Need-add-c Inv-loop μ-loop Inv-search μ-search
 add-c c = omega (arith, passed (c .before .before) .within, c .before .before .before .before .before .loop .inv .2 .inside)
@@ -88,7 +91,7 @@ loop-again : tie.Need-loop-again Inv-loop μ-loop Inv-search μ-search
 loop-again c =
     let h = c .before .before in
     let l = h .before .before .before .loop in
-    (inside-pass (l .inv .0) (passed h) (c .before .fits2 .ensures) (c .if2 .left), clear-later (omega arith) (h .before .advance .ensures .1), l .inv .2)
+    (walking-step (l .inv .0) (passed h) (inside-pass _ _ _ (passed h) (c .before .fits2 .ensures) (c .if2 .left)), clear-later (omega arith) (h .before .advance .ensures .1), l .inv .2)
 
 add-z : tie.Need-add-z Inv-loop μ-loop Inv-search μ-search
 add-z c = search needs
@@ -100,7 +103,7 @@ search-again : tie.Need-search-again Inv-loop μ-loop Inv-search μ-search
 search-again c =
     let s = c .before .before .before .before .before .before .before in
     let l = c .before .loop in
-    inside-end (l .inv .0) (zoned-seen (s .args .staging .now) (s .args .count) (l .inv .2)) (c .loop-test .left)
+    inside-end _ _ (walking-end (l .inv .0) (zoned-seen (s .args .staging .now) (s .args .count) (l .inv .2)) (c .loop-test .left))
 
 returns-3 : tie.Need-returns-3 Inv-loop μ-loop Inv-search μ-search
 returns-3 c =
@@ -109,7 +112,9 @@ returns-3 c =
     (λ w. let b : ⊥ = omega arith in absurd b)
     (λ w.
     let p = walk-passed (zoned-seen (s .args .staging .now) (s .args .count) (w .2 .inv .2)) (w .3 .taken) (w .4 .ensures .0) (w .5 .left) in
-    ap₂ (λ (x y : ℕ). fitted (c .before .before .search .z) (record { cell = x; count = y })) (w .10) (w .11) ∙ inside-hit (w .2 .inv .0) p (w .6 .ensures) (w .7 .taken) (w .8 .ensures) (not-false (w .8 .result) (w .9 .left)))
+    let i = walking-step (w .2 .inv .0) p (inside-hit _ _ _ p (w .6 .ensures) (w .7 .taken)) in
+    let e = sym (w .8 .ensures) ∙ not-false (w .8 .result) (w .9 .left) in
+    ap₂ (λ (x y : ℕ). fitted (c .before .before .search .z) (record { cell = x; count = y })) (w .10) (w .11) ∙ (rw e at (i .rest)))
     (c .before .search-test .came)
 
 returns-4 : tie.Need-returns-4 Inv-loop μ-loop Inv-search μ-search

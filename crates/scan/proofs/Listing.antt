@@ -15,7 +15,7 @@ use Rattle.stage.specs.View.{part, seen}
 use Rattle.stage.proofs.View.{seen-none}
 use Rattle.runs.specs.Rest.{Meets, Passed, Zoned}
 use Rattle.runs.proofs.Rest.{walk-broken}
-use Rattle.runs.proofs.Walking.{Walking, walking-end, walking-start, walking-step}
+use Rattle.runs.proofs.Walking.{Walking, walking-end, walking-start, walking-step, walking-stop}
 use Rattle.objects.specs.Named.{objectRun}
 use Rattle.objects.proofs.Naming.{passed-object}
 use Rattle.scrub.specs.Counted.{ObjectThere}
@@ -70,9 +70,9 @@ pub record Listing (v : List ℕ) (from n z : ℕ) (l : List ℕ) (a : ℕ) (l�
   pub walking : Walking (linesFrom z text c) (zoneText v from n z) v from n c after
   pub put : Put (64 * c) l a text l′ r
 
-pub listing-start : (v : List ℕ) (from n z : ℕ) (l : List ℕ) (a : ℕ) → Listing v from n z l a l a 0 false
+pub listing-start : {v : List ℕ} {from n : ℕ} (z : ℕ) (l : List ℕ) (a : ℕ) → Zoned v from n → Listing v from n z l a l a 0 false
 unfolding zoneText
-listing-start v from n z l a = record { text = []; walking = walking-start v from n refl; put = record { stored = refl; ends = sym (add-zero a); most = omega arith } }
+listing-start z l a y = record { text = []; walking = walking-start y refl; put = record { stored = refl; ends = sym (add-zero a); most = omega arith } }
 
 module _ {v : List ℕ} {from n z : ℕ} {l : List ℕ} {a : ℕ} {l′ : List ℕ} {r c : ℕ} {after : Bool} (s : Listing v from n z l a l′ r c after) where
   pub listing-step : {l″ : List ℕ} {r′ m : ℕ} {f : Bool} → Lined v from n z c after l′ r l″ r′ m f → (m ≡ 0 → ⊥) → Listing v from n z l a l″ r′ (c + m) f
@@ -90,8 +90,8 @@ module _ {v : List ℕ} {from n z : ℕ} {l : List ℕ} {a : ℕ} {l′ : List �
   unfolding zoneLines
   listing-broken q k h =
       let u = q .broken k in
-      put-as (put-then (s .put) (u .line)) (sym (ap (linesFrom z (s .text) c) (u .walk)) ∙ s .walking .rest) (omega arith)
+      put-as (put-then (s .put) (u .line)) (walking-stop (s .walking) (u .walk)) (omega arith)
 
-  pub listing-end : Zoned v from n → n ≤ c → Put (64 * n) l a (zoneText v from n z) l′ r
+  pub listing-end : n ≤ c → Put (64 * n) l a (zoneText v from n z) l′ r
   unfolding zoneLines
-  listing-end y h = put-as (s .put) (sym (append-nil (s .text)) ∙ walking-end (s .walking) y h) (omega (arith, s .walking .within))
+  listing-end h = put-as (s .put) (sym (append-nil (s .text)) ∙ walking-end (s .walking) h) (omega (arith, s .walking .within))

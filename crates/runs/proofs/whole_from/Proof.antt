@@ -4,9 +4,9 @@ use mathlib.Core.Path.{refl}
 use Rattle.stage.specs.View.{seen}
 use Rattle.stage.specs.Clear.{Clear}
 use Rattle.stage.proofs.Clear.{clear-later}
-use Rattle.runs.specs.Rest.{Passed, restOf, walkOn}
-use Rattle.runs.proofs.Rest.{walk-passed, zoned-seen}
-use Rattle.runs.proofs.Walking.{Walking, walking-broken, walking-end, walking-step}
+use Rattle.runs.specs.Rest.{restOf, walkOn}
+use Rattle.runs.proofs.Rest.{zoned-seen}
+use Rattle.runs.proofs.Walking.{Walking, walking-broken, walking-end, walking-passed, walking-step}
 use borrow.Author.Needs.{needs}
 use native.Mathlib.Omega.{arith}
 use Rattle.runs.proofs.whole_from.Statement.{statement}
@@ -21,32 +21,27 @@ abbrev μ-loop : tie.MeasureT-loop
 μ-loop pool staging count zone from behind place cells c₀ after₀ next₀ c after next = zone .cells - c
 
 loop-holds : tie.Need-loop-holds Inv-loop μ-loop
-loop-holds c = let s = c .before .before in (record { within = s .pre .2; rest = refl }, s .pre .3)
+loop-holds c = let s = c .before .before in (record { zoned = zoned-seen (s .args .staging .now) (s .args .count) (s .pre .1); within = s .pre .2; rest = refl }, s .pre .3)
 
 advance-requires : tie.Need-advance-requires Inv-loop μ-loop
 advance-requires c κs = search needs
 
 returns : tie.Need-returns Inv-loop μ-loop
-returns c = let s = c .before .before .before .before .before .before in walking-broken (c .before .before .before .loop .inv .0) (zoned-seen (s .args .staging .now) (s .args .count) (s .pre .1)) (c .before .before .loop-test .taken) (c .before .advance .ensures .0) (c .if1 .taken)
-
--- the run that was met
-passed : (c : tie.Else1 Inv-loop μ-loop)
-    → let s = c .before .before .before .before .before .before in
-    let l = c .before .before .before .loop in
-    Passed (seen (s .args .pool .now) (s .args .staging .now) (s .args .count)) (s .args .zone .from) (s .args .zone .cells) (l .c) (l .after) (c .before .advance .result .cells) (c .before .advance .result .free)
-passed c = let s = c .before .before .before .before .before .before in walk-passed (zoned-seen (s .args .staging .now) (s .args .count) (s .pre .1)) (c .before .before .loop-test .taken) (c .before .advance .ensures .0) (c .if1 .left)
+returns c = walking-broken (c .before .before .before .loop .inv .0) (c .before .before .loop-test .taken) (c .before .advance .ensures .0) (c .if1 .taken)
 
 add-c : tie.Need-add-c Inv-loop μ-loop
-add-c c = omega (arith, passed c .within)
+add-c c = let p = walking-passed (c .before .before .before .loop .inv .0) (c .before .before .loop-test .taken) (c .before .advance .ensures .0) (c .if1 .left) in omega (arith, p .within)
 
 loop-less : tie.Need-loop-less Inv-loop μ-loop
-loop-less c = omega (arith, passed c .within, passed c .some)
+loop-less c = let p = walking-passed (c .before .before .before .loop .inv .0) (c .before .before .loop-test .taken) (c .before .advance .ensures .0) (c .if1 .left) in omega (arith, p .within, p .some)
 
 loop-again : tie.Need-loop-again Inv-loop μ-loop
-loop-again c = (walking-step (c .before .before .before .loop .inv .0) (passed c) (λ w. refl), clear-later (omega arith) (c .before .advance .ensures .1))
+loop-again c =
+    let i = c .before .before .before .loop .inv .0 in
+    (walking-step i (walking-passed i (c .before .before .loop-test .taken) (c .before .advance .ensures .0) (c .if1 .left)) (λ w. refl), clear-later (omega arith) (c .before .advance .ensures .1))
 
 returns-2 : tie.Need-returns-2 Inv-loop μ-loop
-returns-2 c = let s = c .before .before .before .before in walking-end (c .before .loop .inv .0) (zoned-seen (s .args .staging .now) (s .args .count) (s .pre .1)) (c .loop-test .left)
+returns-2 c = walking-end (c .before .loop .inv .0) (c .loop-test .left)
 
 pub whole-from-spec : {M : Type 1} → statement M
 whole-from-spec =

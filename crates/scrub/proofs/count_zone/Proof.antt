@@ -2,8 +2,8 @@
 use Prim.Native.Nat.{_-_, _+_, _*_, _≤_}
 use mathlib.Core.Path.{refl}
 use Rattle.runs.specs.Rest.{Passed, walkOf}
-use Rattle.runs.proofs.Walking.{Walking, walking-broken, walking-end, walking-start, walking-step}
-use Rattle.scrub.proofs.Counting.{meets-pool, object-there, pool-passed, tallied, tallies, tallies-step}
+use Rattle.runs.proofs.Walking.{Walking, walking-broken, walking-end, walking-passed, walking-start, walking-step}
+use Rattle.scrub.proofs.Counting.{meets-pool, object-there, tallied, tallies, tallies-step}
 use borrow.Author.Needs.{needs}
 use native.Mathlib.Omega.{arith}
 use Rattle.scrub.proofs.count_zone.Statement.{statement}
@@ -17,7 +17,7 @@ abbrev μ-loop : tie.MeasureT-loop
 μ-loop pool zone from cells objects₀ damaged₀ c₀ after₀ objects damaged c after = zone .cells - c
 
 loop-holds : tie.Need-loop-holds Inv-loop μ-loop
-loop-holds c = (walking-start _ _ _ refl, omega arith, omega arith)
+loop-holds c = (walking-start (c .before .pre .1) refl, omega arith, omega arith)
 
 sub-meet : tie.Need-sub-meet Inv-loop μ-loop
 sub-meet c = search needs
@@ -33,16 +33,15 @@ meet-requires c κs = let s = c .before .before .before .before in (s .pre .0, s
 
 returns : tie.Need-returns Inv-loop μ-loop
 returns c =
-    let s = c .before .before .before .before .before .before in
     let i = c .before .before .before .before .loop .inv in
-    tallied (walking-broken (i .0) (s .pre .1) (c .before .before .before .loop-test .taken) (meets-pool _ (c .before .meet .ensures)) (c .if1 .taken)) (omega (arith, i .1, i .0 .within)) (omega (arith, i .2, i .0 .within))
+    tallied (walking-broken (i .0) (c .before .before .before .loop-test .taken) (meets-pool _ (c .before .meet .ensures)) (c .if1 .taken)) (omega (arith, i .1, i .0 .within)) (omega (arith, i .2, i .0 .within))
 
 -- the run that was met
 passed : (c : tie.Else1 Inv-loop μ-loop)
     → let s = c .before .before .before .before .before .before in
     let l = c .before .before .before .before .loop in
     Passed (s .args .pool .now) (s .args .zone .from) (s .args .zone .cells) (l .c) (l .after) (c .before .meet .result .cells) (c .before .meet .result .free)
-passed c = let s = c .before .before .before .before .before .before in pool-passed _ (s .pre .1) (c .before .before .before .loop-test .taken) (c .before .meet .ensures) (c .if1 .left)
+passed c = walking-passed (c .before .before .before .before .loop .inv .0) (c .before .before .before .loop-test .taken) (meets-pool _ (c .before .meet .ensures)) (c .if1 .left)
 
 one-if-requires : tie.Need-one-if-requires Inv-loop μ-loop
 one-if-requires c κs = search needs
@@ -84,7 +83,7 @@ loop-again c =
 returns-2 : tie.Need-returns-2 Inv-loop μ-loop
 returns-2 c =
     let i = c .before .loop .inv in
-    tallied (walking-end (i .0) (c .before .before .before .pre .1) (c .loop-test .left)) (omega (arith, i .1, i .0 .within)) (omega (arith, i .2, i .0 .within))
+    tallied (walking-end (i .0) (c .loop-test .left)) (omega (arith, i .1, i .0 .within)) (omega (arith, i .2, i .0 .within))
 
 pub count-zone-spec : {M : Type 1} → statement M
 count-zone-spec =

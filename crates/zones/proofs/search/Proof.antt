@@ -9,9 +9,9 @@ use mathlib.Core.Logic.{⊎-elim}
 use mathlib.Core.Path.{sym, ap₂, _∙_}
 use borrow.Author.Tests.{not-false, not-true}
 use Rattle.runs.specs.Rest.{Passed, Zoned}
-use Rattle.runs.proofs.Rest.{walk-passed, zoned-seen}
+use Rattle.runs.proofs.Rest.{zoned-seen}
 use Rattle.zones.proofs.Shaped.{zone-inside}
-use Rattle.runs.proofs.Walking.{Walking, walking-broken, walking-end, walking-start, walking-step}
+use Rattle.runs.proofs.Walking.{Walking, walking-broken, walking-end, walking-passed, walking-start, walking-step}
 use Rattle.zones.proofs.Searching.{Outside, cellsFrom, inside-end, inside-hit, inside-pass, inside-start, outside-end, outside-start}
 use borrow.Author.Needs.{needs}
 use native.Mathlib.Omega.{arith}
@@ -40,20 +40,18 @@ zone-requires c κs = (c .before .before .before .before .pre .1 .range, c .sear
 
 loop-holds : tie.Need-loop-holds Inv-loop μ-loop Inv-search μ-search
 loop-holds c =
-    let s = c .before .before .before .before .before in (
-      walking-start _ _ _ (inside-start (c .before .before .search .inv) (c .before .search-test .taken) (c .zone .ensures)),
+    let s = c .before .before .before .before .before in
+    let z = zone-inside (s .args .s) (s .pre .1 .range) (s .pre .1 .size) (c .before .search-test .taken) (c .zone .ensures) in (
+      walking-start (zoned-seen (s .args .staging .now) (s .args .count) z) (inside-start (c .before .before .search .inv) (c .before .search-test .taken) (c .zone .ensures)),
       clear-empty (s .args .staging .now) (s .args .count) (omega arith),
-      zone-inside (s .args .s) (s .pre .1 .range) (s .pre .1 .size) (c .before .search-test .taken) (c .zone .ensures),
+      z,
     )
 
 advance-requires : tie.Need-advance-requires Inv-loop μ-loop Inv-search μ-search
 advance-requires c κs = let l = c .before .loop in (c .before .before .before .before .before .before .before .pre .0, l .inv .2, c .loop-test .taken, l .inv .1)
 
 returns : tie.Need-returns Inv-loop μ-loop Inv-search μ-search
-returns c =
-    let s = c .before .before .before .before .before .before .before .before .before in
-    let l = c .before .before .before .loop in
-    walking-broken (l .inv .0) (zoned-seen (s .args .staging .now) (s .args .count) (l .inv .2)) (c .before .before .loop-test .taken) (c .before .advance .ensures .0) (c .if1 .taken)
+returns c = walking-broken (c .before .before .before .loop .inv .0) (c .before .before .loop-test .taken) (c .before .advance .ensures .0) (c .if1 .taken)
 
 fits-requires : tie.Need-fits-requires Inv-loop μ-loop Inv-search μ-search
 fits-requires c κs = search needs
@@ -63,9 +61,7 @@ passed : (c : tie.Else1 Inv-loop μ-loop Inv-search μ-search)
     → let s = c .before .before .before .before .before .before .before .before .before in
     let l = c .before .before .before .loop in
     Passed (seen (s .args .pool .now) (s .args .staging .now) (s .args .count)) (c .before .before .before .before .zone .result .from) (c .before .before .before .before .zone .result .cells) (l .c) (l .after) (c .before .advance .result .cells) (c .before .advance .result .free)
-passed c =
-    let s = c .before .before .before .before .before .before .before .before .before in
-    walk-passed (zoned-seen (s .args .staging .now) (s .args .count) (c .before .before .before .loop .inv .2)) (c .before .before .loop-test .taken) (c .before .advance .ensures .0) (c .if1 .left)
+passed c = walking-passed (c .before .before .before .loop .inv .0) (c .before .before .loop-test .taken) (c .before .advance .ensures .0) (c .if1 .left)
 
 add-whole-from : tie.Need-add-whole-from Inv-loop μ-loop Inv-search μ-search
 add-whole-from c = omega (arith, passed (c .before .before) .within, c .before .before .before .before .before .loop .inv .2 .inside)
@@ -100,18 +96,14 @@ search-less : tie.Need-search-less Inv-loop μ-loop Inv-search μ-search
 search-less c = search needs
 
 search-again : tie.Need-search-again Inv-loop μ-loop Inv-search μ-search
-search-again c =
-    let s = c .before .before .before .before .before .before .before in
-    let l = c .before .loop in
-    inside-end _ _ (walking-end (l .inv .0) (zoned-seen (s .args .staging .now) (s .args .count) (l .inv .2)) (c .loop-test .left))
+search-again c = inside-end _ _ (walking-end (c .before .loop .inv .0) (c .loop-test .left))
 
 returns-3 : tie.Need-returns-3 Inv-loop μ-loop Inv-search μ-search
 returns-3 c =
-    let s = c .before .before .before .before .before in
     ⊎-elim
     (λ w. let b : ⊥ = omega arith in absurd b)
     (λ w.
-    let p = walk-passed (zoned-seen (s .args .staging .now) (s .args .count) (w .2 .inv .2)) (w .3 .taken) (w .4 .ensures .0) (w .5 .left) in
+    let p = walking-passed (w .2 .inv .0) (w .3 .taken) (w .4 .ensures .0) (w .5 .left) in
     let i = walking-step (w .2 .inv .0) p (inside-hit _ _ _ p (w .6 .ensures) (w .7 .taken)) in
     let e = sym (w .8 .ensures) ∙ not-false (w .8 .result) (w .9 .left) in
     ap₂ (λ (x y : ℕ). fitted (c .before .before .search .z) (record { cell = x; count = y })) (w .10) (w .11) ∙ (rw e at (i .rest)))

@@ -9,7 +9,7 @@ use native.Mathlib.Omega.{arith}
 use lib.ListN.{length, take, drop, length-drop}
 use lib.Seq.{drop-drop, length-take-le, take-take}
 use borrow.Author.Tests.{le-leb, lt-leb}
-use Rattle.rules.specs.Runs.{Next, Run, Walk, broken, cells, checkRun, ended, fits, free, freeOk, headCells, isFree, nextRun, objectOk, onward, readRun, run, runOf, walk, zoneWalk}
+use Rattle.rules.specs.Runs.{Next, Walk, broken, cells, checkRun, ended, fits, free, freeOk, headCells, isFree, nextRun, objectOk, onward, readRun, run, runOf, walk, zoneWalk}
 use Rattle.rules.proofs.Bool.{split}
 use Rattle.rules.proofs.Laid.{read-says, says-cells, step-end, step-inv, walk-fuel}
 use Rattle.stage.specs.View.{part, seen}

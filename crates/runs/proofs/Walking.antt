@@ -39,3 +39,8 @@ module _ {R : Type 0} {F : Walk → R} {result : R} {v : List ℕ} {from n c : �
 
   pub walking-end : n ≤ c → F (record { runs = []; whole = true }) ≡ result
   walking-end h = walking-stop (walk-end c after (i .zoned) h)
+
+-- the loop is left: of the walk from there on only counts whether it is whole
+pub walking-judged : {R : Type 0} (H : Bool → R) {result : R} {v : List ℕ} {from n c : ℕ} {after : Bool} → Walking (λ w. H (w .whole)) result v from n c after → {x b : Bool}
+    → x ≡ walkOn after (restOf v from n c) .whole → x ≡ b → H b ≡ result
+walking-judged H i e t = ap H (sym t ∙ e) ∙ i .rest

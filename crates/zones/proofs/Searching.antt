@@ -29,6 +29,10 @@ zonesFrom s v k z = search s v k z (s .zones - z)
 abbrev pub cellsFrom : Shape → List ℕ → ℕ → ℕ → ℕ → Walk → Fit
 cellsFrom s v k z c w = cond (w .whole) (fitIn z (fit k c (w .runs)) (zonesFrom s v k (z + 1))) (failed 23)
 
+-- a run of n cells at cell c fits, if its zone is unbroken
+abbrev pub fitOr : ℕ → ℕ → ℕ → Bool → Fit
+fitOr z c n whole = cond whole (fitted z (record { cell = c; count = n })) (failed 23)
+
 pub record Outside (s : Shape) (v : List ℕ) (k z : ℕ) : Type 0 where
   pub rest : zonesFrom s v k z ≡ search s v k 0 (s .zones)
 
@@ -63,8 +67,6 @@ module _ (s : Shape) (k z : ℕ) {v : List ℕ} {from n c : ℕ} {a : Bool} {m :
   pub inside-pass : {b : Bool} → b ≡ (f && leb k m) → b ≡ false → (w : Walk) → cellsFrom s v k z c (record { runs = q .that ∷ w .runs; whole = w .whole }) ≡ cellsFrom s v k z (c + m) w
   inside-pass p h w = rw (fit-pass k c (q .that) (w .runs) m (rw (q .free-is) (sym p ∙ h)) (q .cells-is))
 
-  -- the rest of the zone behind a run that fits is judged
-  pub inside-hit : {b : Bool} → b ≡ (f && leb k m) → b ≡ true → (w : Walk)
-      → cellsFrom s v k z c (record { runs = q .that ∷ w .runs; whole = w .whole }) ≡ cond (w .whole) (fitted z (record { cell = c; count = m })) (failed 23)
+  pub inside-hit : {b : Bool} → b ≡ (f && leb k m) → b ≡ true → (w : Walk) → cellsFrom s v k z c (record { runs = q .that ∷ w .runs; whole = w .whole }) ≡ fitOr z c m (w .whole)
   unfolding fitIn
   inside-hit p h w = rw (fit-hit k c (q .that) (w .runs) m (rw (q .free-is) (sym p ∙ h)) (q .cells-is))

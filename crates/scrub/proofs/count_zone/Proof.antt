@@ -1,5 +1,5 @@
 -- `scrub::count_zone` meets its contract. Assumes nothing.
-use Prim.Native.Nat.{_-_, _+_, _*_, _≤_}
+use Prim.Native.Nat.{_-_, _≤_}
 use mathlib.Core.Path.{refl}
 use Rattle.runs.specs.Rest.{Passed, walkOf}
 use Rattle.runs.proofs.Walking.{Walking, walking-broken, walking-end, walking-passed, walking-start, walking-step}

@@ -6,13 +6,13 @@ use Rattle.stage.specs.Clear.{Clear}
 use Rattle.stage.proofs.Clear.{clear-empty, clear-later}
 use Prim.Native.Nat.{ℕ, _+_, _*_, _-_}
 use mathlib.Core.Logic.{⊎-elim}
-use mathlib.Core.Path.{sym, ap₂, _∙_}
+use mathlib.Core.Path.{ap₂, _∙_}
 use borrow.Author.Tests.{not-false, not-true}
 use Rattle.runs.specs.Rest.{Passed, Zoned}
 use Rattle.runs.proofs.Rest.{zoned-seen}
 use Rattle.zones.proofs.Shaped.{zone-inside}
-use Rattle.runs.proofs.Walking.{Walking, walking-broken, walking-end, walking-passed, walking-start, walking-step}
-use Rattle.zones.proofs.Searching.{Outside, cellsFrom, inside-end, inside-hit, inside-pass, inside-start, outside-end, outside-start}
+use Rattle.runs.proofs.Walking.{Walking, walking-broken, walking-end, walking-judged, walking-passed, walking-start, walking-step}
+use Rattle.zones.proofs.Searching.{Outside, cellsFrom, fitOr, inside-end, inside-hit, inside-pass, inside-start, outside-end, outside-start}
 use borrow.Author.Needs.{needs}
 use native.Mathlib.Omega.{arith}
 use Rattle.zones.proofs.search.Statement.{statement}
@@ -74,8 +74,8 @@ whole-from-requires c κs =
 returns-2 : tie.Need-returns-2 Inv-loop μ-loop Inv-search μ-search
 returns-2 c =
     let h = c .before .before .before .before in
-    let e = sym (c .before .whole-from .ensures) ∙ not-true (c .before .whole-from .result) (c .if3 .taken) in
-    rw e at (walking-step (h .before .before .before .loop .inv .0) (passed h) (inside-hit _ _ _ (passed h) (c .before .before .before .fits2 .ensures) (c .before .before .if2 .taken)) .rest)
+    let i = walking-step (h .before .before .before .loop .inv .0) (passed h) (inside-hit _ _ _ (passed h) (c .before .before .before .fits2 .ensures) (c .before .before .if2 .taken)) in
+    walking-judged (fitOr _ _ _) i (c .before .whole-from .ensures) (not-true (c .before .whole-from .result) (c .if3 .taken))
 
 add-c : tie.Need-add-c Inv-loop μ-loop Inv-search μ-search
 add-c c = omega (arith, passed (c .before .before) .within, c .before .before .before .before .before .loop .inv .2 .inside)
@@ -105,8 +105,7 @@ returns-3 c =
     (λ w.
     let p = walking-passed (w .2 .inv .0) (w .3 .taken) (w .4 .ensures .0) (w .5 .left) in
     let i = walking-step (w .2 .inv .0) p (inside-hit _ _ _ p (w .6 .ensures) (w .7 .taken)) in
-    let e = sym (w .8 .ensures) ∙ not-false (w .8 .result) (w .9 .left) in
-    ap₂ (λ (x y : ℕ). fitted (c .before .before .search .z) (record { cell = x; count = y })) (w .10) (w .11) ∙ (rw e at (i .rest)))
+    ap₂ (λ (x y : ℕ). fitted (c .before .before .search .z) (record { cell = x; count = y })) (w .10) (w .11) ∙ walking-judged (fitOr _ _ _) i (w .8 .ensures) (not-false (w .8 .result) (w .9 .left)))
     (c .before .search-test .came)
 
 returns-4 : tie.Need-returns-4 Inv-loop μ-loop Inv-search μ-search

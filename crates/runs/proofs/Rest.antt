@@ -59,9 +59,8 @@ module _ (a : Bool) (bs h : List ℕ) (rest : ℕ) (e : take 16 bs ≡ h) (l : l
   unfolding runOf checkRun fits
   next-object m p q =
       let f = next-is a bs h e (omega arith) in
-      split a
-      (λ y. (rw (f, p, q, y, le-leb (64 * headCells h) (length bs) (omega arith)), rw (f, p, q, y, le-leb (64 * headCells h) (length bs) (omega arith))))
-      (λ y. (rw (f, p, q, y, le-leb (64 * headCells h) (length bs) (omega arith)), rw (f, p, q, y, le-leb (64 * headCells h) (length bs) (omega arith))))
+      let u = le-leb (64 * headCells h) (length bs) (omega arith) in
+      split a (λ y. (rw (f, p, q, y, u), rw (f, p, q, y, u))) (λ y. (rw (f, p, q, y, u), rw (f, p, q, y, u)))
 
   next-after : headCells h ≤ rest → freeOk h ≡ true → a ≡ true → nextRun a bs ≡ broken
   unfolding runOf checkRun fits

@@ -76,12 +76,15 @@ spotted-here {v} {from} {n} {a} {p} {c} {f} {m} {g} k e d =
 
 -- ---- the zone judged whole on the way
 
+apart : {A : Type 0} → false ≡ true → A
+apart e = absurd (let z : _≡_ {A = ℕ} 0 1 = cc in omega arith)
+
 module _ {v : List ℕ} {from n a p c : ℕ} {f : Bool} (k : Coming v from n a p c f) where
   pub coming-broken : {m : ℕ} {g : Bool} → Zoned v from n → c < n → Meets v from n c f m g → m ≡ 0 → walkOf v from n .whole ≡ false
   coming-broken z h e q = sym (k .whole) ∙ ap (λ (w : Walk). w .whole) (walk-broken z h e q)
 
   pub came-here : {st : List ℕ} {i next : ℕ} → a ≤ c → Clear st i (from + 64 * c) next → Came v st i from n a true p c f next
-  came-here h l = record { broken = λ e. let z : _≡_ {A = ℕ} 0 1 = cc in absurd (omega arith); coming = λ e. k; past = λ e. h; clear = λ e. l }
+  came-here h l = record { broken = λ e. apart (sym e); coming = λ e. k; past = λ e. h; clear = λ e. l }
 
   pub located-none : {x : Bool} → a < c → x ≡ walkOn f (restOf v from n c) .whole → Located v from n a x 0 0 false
   located-none h e = record { whole-is = e ∙ k .whole; spotted = λ y. spotted-none k h refl }
@@ -91,16 +94,10 @@ module _ {v : List ℕ} {from n a p c : ℕ} {f : Bool} (k : Coming v from n a p
 
 pub came-broken : {v st : List ℕ} {i from n a p c next : ℕ} {f : Bool} → sought a p c (record { runs = []; whole = false }) ≡ sought a 0 0 (walkOf v from n)
     → Came v st i from n a false p c f next
-came-broken e =
-    record {
-      broken = λ y. sym (ap (λ (x : Sought). x .0) e);
-      coming = λ y. let z : _≡_ {A = ℕ} 0 1 = cc in absurd (omega arith);
-      past = λ y. let z : _≡_ {A = ℕ} 0 1 = cc in absurd (omega arith);
-      clear = λ y. let z : _≡_ {A = ℕ} 0 1 = cc in absurd (omega arith);
-    }
+came-broken e = record { broken = λ y. sym (ap (λ (x : Sought). x .0) e); coming = apart; past = apart; clear = apart }
 
 pub located-broken : {v : List ℕ} {from n a p m : ℕ} {f : Bool} → walkOf v from n .whole ≡ false → Located v from n a false p m f
-located-broken e = record { whole-is = sym e; spotted = λ y. let z : _≡_ {A = ℕ} 0 1 = cc in absurd (omega arith) }
+located-broken e = record { whole-is = sym e; spotted = apart }
 
 pub stands-run : {v : List ℕ} {from n a p m : ℕ} {f : Bool} (s : Stands v from n a p m f) → runAt a 0 (walkOf v from n .runs) ≡ some (s .passed .that)
 unfolding runAt

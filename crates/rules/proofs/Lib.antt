@@ -1,6 +1,7 @@
 pub mod AcceptanceVectors
 pub mod Examples
 pub mod Bool
+pub mod Numbers
 pub mod Chain
 pub mod Test
 pub mod Xor

@@ -9,7 +9,7 @@ use native.Mathlib.Omega.{arith}
 use lib.ListN.{length, take, drop, length-drop}
 use lib.Seq.{drop-drop, length-take-le, take-take}
 use borrow.Author.Tests.{le-leb, lt-leb}
-use Rattle.rules.specs.Runs.{Next, Run, Walk, broken, cells, checkRun, ended, fits, free, freeOk, headCells, isFree, nextRun, objectOk, onward, readRun, run, runOf, walk, zoneWalk}
+use Rattle.rules.specs.Runs.{Next, Walk, broken, cells, checkRun, ended, fits, free, freeOk, headCells, isFree, nextRun, objectOk, onward, readRun, run, runOf, walk, zoneWalk}
 use Rattle.rules.proofs.Bool.{split}
 use Rattle.rules.proofs.Laid.{read-says, says-cells, step-end, step-inv, walk-fuel}
 use Rattle.stage.specs.View.{part, seen}
@@ -59,9 +59,8 @@ module _ (a : Bool) (bs h : List ℕ) (rest : ℕ) (e : take 16 bs ≡ h) (l : l
   unfolding runOf checkRun fits
   next-object m p q =
       let f = next-is a bs h e (omega arith) in
-      split a
-      (λ y. (rw (f, p, q, y, le-leb (64 * headCells h) (length bs) (omega arith)), rw (f, p, q, y, le-leb (64 * headCells h) (length bs) (omega arith))))
-      (λ y. (rw (f, p, q, y, le-leb (64 * headCells h) (length bs) (omega arith)), rw (f, p, q, y, le-leb (64 * headCells h) (length bs) (omega arith))))
+      let u = le-leb (64 * headCells h) (length bs) (omega arith) in
+      split a (λ y. (rw (f, p, q, y, u), rw (f, p, q, y, u))) (λ y. (rw (f, p, q, y, u), rw (f, p, q, y, u)))
 
   next-after : headCells h ≤ rest → freeOk h ≡ true → a ≡ true → nextRun a bs ≡ broken
   unfolding runOf checkRun fits
@@ -132,77 +131,33 @@ pub walk-broken : {v : List ℕ} {from n c : ℕ} {a : Bool} {m : ℕ} {f : Bool
 walk-broken {v} {from} {n} {c} {a} z h e k = walk-stop a (restOf v from n c) (sym (e .cells-is) ∙ k) (rw (rest-length v from n c z) (omega arith))
 
 -- a run is passed
-record On (a : Bool) (bs : List ℕ) (n : ℕ) (f : Bool) : Type 0 where
-  that : Run
-  next : nextRun a bs ≡ run that
-  cells-is : cells that ≡ n
-  free-is : isFree that ≡ f
-  room : 64 * n ≤ length bs
-  runs : walkOn a bs .runs ≡ that ∷ walkOn f (drop (64 * n) bs) .runs
-  whole : walkOn a bs .whole ≡ walkOn f (drop (64 * n) bs) .whole
-
-walk-run : (a : Bool) (bs : List ℕ) (n : ℕ) (f : Bool) → n ≡ metCells (nextRun a bs) → f ≡ metFree (nextRun a bs) → 1 ≤ n → On a bs n f
+pub walk-passed : {v : List ℕ} {from n c : ℕ} {a : Bool} {m : ℕ} {f : Bool} → Zoned v from n → c < n → Meets v from n c a m f → (m ≡ 0 → ⊥) → Passed v from n c a m f
 unfolding walkOn walk
-walk-run a bs n f e g h = go (nextRun a bs) refl e g
+walk-passed {v} {from} {n} {c} {a} {m} {f} z h e k = go (nextRun a (restOf v from n c)) refl (e .cells-is) (e .free-is)
   where
-    go : (x : Next) → nextRun a bs ≡ x → n ≡ metCells x → f ≡ metFree x → On a bs n f
-    go ended p e g = absurd (omega arith)
-    go broken p e g = absurd (omega arith)
+    go : (x : Next) → nextRun a (restOf v from n c) ≡ x → m ≡ metCells x → f ≡ metFree x → Passed v from n c a m f
+    go ended p e g = absurd (k e)
+    go broken p e g = absurd (k e)
     go (run r) p e g = unfold onward in (
-        let i = step-inv a bs r p in
-        let k : 64 * n ≤ length bs = rw e (i .1) in
-        let d : length (drop (64 * n) bs) ≡ length bs - 64 * n = length-drop (64 * n) bs in
-        let w : walk (length bs) (isFree r) (drop (64 * cells r) bs) ≡ walk (suc (length (drop (64 * n) bs))) f (drop (64 * n) bs) =
-        rw (← e, ← g) (walk-fuel (length bs) (suc (length (drop (64 * n) bs))) f (drop (64 * n) bs) (omega arith) (omega arith)) in
+        let l : length (restOf v from n c) ≡ 64 * (n - c) = rest-length v from n c z in
+        let b : c + m ≤ n = let j = rw (← e) at (step-inv a (restOf v from n c) r p .1) in omega (arith, j, k) in
+        let t : length (restOf v from n (c + m)) ≡ 64 * (n - (c + m)) = rest-length v from n (c + m) z in
+        let w : walk (length (restOf v from n c)) (isFree r) (drop (64 * cells r) (restOf v from n c)) ≡ walkOn f (restOf v from n (c + m)) =
+        rw (← e, ← g, rest-drop v from n c m b) (walk-fuel (length (restOf v from n c)) (suc (length (restOf v from n (c + m)))) f (restOf v from n (c + m)) (omega (arith, k)) (omega arith)) in
         record {
+          within = b;
+          some = omega (arith, k);
           that = r;
-          next = p;
           cells-is = sym e;
           free-is = sym g;
-          room = k;
+          next = p;
           runs = rw (p, walk) (ap (λ (x : Walk). r ∷ x .runs) w);
           whole = rw (p, walk) (ap (λ (x : Walk). x .whole) w);
         }
         )
-
-pub walk-passed : {v : List ℕ} {from n c : ℕ} {a : Bool} {m : ℕ} {f : Bool} → Zoned v from n → c < n → Meets v from n c a m f → (m ≡ 0 → ⊥) → Passed v from n c a m f
-walk-passed {v} {from} {n} {c} {a} {m} {f} z h e k =
-    let o = walk-run a (restOf v from n c) m f (e .cells-is) (e .free-is) (omega (arith, k)) in
-    let l : length (restOf v from n c) ≡ 64 * (n - c) = rest-length v from n c z in
-    let w : c + m ≤ n = omega (arith, o .room) in
-    let d : drop (64 * m) (restOf v from n c) ≡ restOf v from n (c + m) = rest-drop v from n c m w in
-    record {
-      within = w;
-      some = omega (arith, k);
-      that = o .that;
-      cells-is = o .cells-is;
-      free-is = o .free-is;
-      next = o .next;
-      runs = o .runs ∙ ap (λ (x : List ℕ). o .that ∷ walkOn f x .runs) d;
-      whole = o .whole ∙ ap (λ (x : List ℕ). walkOn f x .whole) d;
-    }
 
 -- where the walk comes to the end, a run is met
 pub whole-passed : {v : List ℕ} {from n c : ℕ} {a : Bool} {m : ℕ} {f : Bool} → Zoned v from n → c < n → walkOn a (restOf v from n c) .whole ≡ true → Meets v from n c a m f
     → Passed v from n c a m f
 whole-passed z h w e =
     walk-passed z h e (λ q. let u : true ≡ false = sym w ∙ ap (λ (x : Walk). x .whole) (walk-broken z h e q) in let y : _≡_ {A = ℕ} 0 1 = cc in omega arith)
-
--- ---- the loop that judges a zone whole from cell b on
-
-pub record Judging (v : List ℕ) (from n b : ℕ) (g : Bool) (c : ℕ) (a : Bool) : Type 0 where
-  pub within : c ≤ n
-  pub whole : walkOn a (restOf v from n c) .whole ≡ walkOn g (restOf v from n b) .whole
-
-pub judging-start : (v : List ℕ) (from n : ℕ) {b : ℕ} (g : Bool) → b ≤ n → Judging v from n b g b g
-judging-start v from n g h = record { within = h; whole = refl }
-
-module _ {v : List ℕ} {from n b c : ℕ} {g a : Bool} (j : Judging v from n b g c a) where
-  pub judging-step : {m : ℕ} {f : Bool} → Passed v from n c a m f → Judging v from n b g (c + m) f
-  judging-step p = record { within = p .within; whole = sym (p .whole) ∙ j .whole }
-
-  pub judging-broken : {m : ℕ} {f : Bool} → Zoned v from n → c < n → Meets v from n c a m f → m ≡ 0 → false ≡ walkOn g (restOf v from n b) .whole
-  judging-broken z h e k = sym (ap (λ (w : Walk). w .whole) (walk-broken z h e k)) ∙ j .whole
-
-  pub judging-end : Zoned v from n → n ≤ c → true ≡ walkOn g (restOf v from n b) .whole
-  judging-end z h = sym (ap (λ (w : Walk). w .whole) (walk-end c a z h)) ∙ j .whole

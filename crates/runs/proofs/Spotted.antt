@@ -2,7 +2,7 @@
 use Prim.Native.Nat.{ℕ, _+_, _-_, _*_, _≤_, _<_}
 use mathlib.Core.Path.{_≡_, refl, sym, ap, ap₂, _∙_, subst}
 use mathlib.Core.Bool.{Bool, true, false}
-use mathlib.Core.Option.{none, some}
+use mathlib.Core.Option.{Option, none, some}
 use mathlib.Core.List.{List, [], _∷_}
 use native.Mathlib.Omega.{arith}
 use lib.Dec.{eqb}
@@ -12,18 +12,8 @@ use Rattle.rules.specs.Search.{Place, freeCells, joined, lead, runAt}
 use Rattle.stage.specs.Clear.{Clear}
 use Rattle.runs.specs.Rest.{Meets, Passed, Zoned, restOf, walkOf, walkOn}
 use Rattle.runs.specs.Spotted.{Came, Coming, Joined, Lead, Located, Spotted, Stands, freeOf}
-use Rattle.runs.proofs.Rest.{walk-broken, walk-end, walk-start}
-
-pub coming-start : (v : List ℕ) (from n a : ℕ) → Coming v from n a 0 0 false
-coming-start v from n a =
-    let w = walk-start v from n in
-    record {
-      within = omega arith;
-      low = omega arith;
-      whole = ap (λ (x : Walk). x .whole) w;
-      seek = ap (λ (x : Walk). runAt a 0 (x .runs)) w;
-      join = ap (λ (x : Walk). joined a 0 0 (x .runs)) w;
-    }
+use Rattle.runs.proofs.Rest.{walk-broken, walk-end}
+use Rattle.runs.proofs.Walking.{Walking}
 
 free-of : (r : Run) (m : ℕ) (f : Bool) → cells r ≡ m → isFree r ≡ f → freeOf m f ≡ freeCells r
 unfolding freeOf
@@ -35,21 +25,33 @@ unfolding freeOf
 free-le m true = omega arith
 free-le m false = omega arith
 
-pub coming-step : {v : List ℕ} {from n a p c : ℕ} {f : Bool} {m : ℕ} {g : Bool} {q : ℕ} → Coming v from n a p c f → c < a → Passed v from n c f m g → q ≡ freeOf m g
-    → Coming v from n a q (c + m) g
+-- ---- the walk to cell a, which comes to cell c with p free cells right before it
+
+-- whether the zone is unbroken, the run at cell a, and that run joined
+abbrev pub Sought : Type 0
+Sought = Bool × Option Run × Place
+
+abbrev pub sought : ℕ → ℕ → ℕ → Walk → Sought
+sought a p c w = (w .whole, runAt a c (w .runs), joined a p c (w .runs))
+
+pub sought-step : {v : List ℕ} {from n a c : ℕ} (p : ℕ) {f : Bool} {m : ℕ} {g : Bool} {q : ℕ} → c < a → (d : Passed v from n c f m g) → q ≡ freeOf m g → (w : Walk)
+    → sought a p c (record { runs = d .that ∷ w .runs; whole = w .whole }) ≡ sought a q (c + m) w
 unfolding runAt joined
-coming-step {v} {from} {n} {a} {p} {c} {f} {m} {g} {q} k h d e =
+sought-step {a = a} {c} p {m = m} {g} h d e w =
     let ne : eqb c a ≡ false = ne-eqb c a (λ (x : c ≡ a). omega arith) in
-    let rs : List Run = walkOn g (restOf v from n (c + m)) .runs in
-    let s : runAt a c (d .that ∷ rs) ≡ runAt a (c + m) rs = rw ne (ap (λ (x : ℕ). runAt a (c + x) rs) (d .cells-is)) in
-    let j : joined a p c (d .that ∷ rs) ≡ joined a q (c + m) rs =
-    rw ne (ap₂ (λ (x y : ℕ). joined a x (c + y) rs) (sym (e ∙ free-of (d .that) m g (d .cells-is) (d .free-is))) (d .cells-is)) in
+    rw (ne, d .cells-is, sym (e ∙ free-of (d .that) m g (d .cells-is) (d .free-is)))
+
+pub free-low : {v : List ℕ} {from n c : ℕ} {f : Bool} {m : ℕ} {g : Bool} {q : ℕ} → Passed v from n c f m g → q ≡ freeOf m g → q ≤ c + m
+free-low {m = m} {g} d e = omega (arith, free-le m g)
+
+pub coming-is : {v : List ℕ} {from n a p c : ℕ} {f : Bool} → Walking (sought a p c) (sought a 0 0 (walkOf v from n)) v from n c f → p ≤ c → Coming v from n a p c f
+coming-is k h =
     record {
-      within = d .within;
-      low = omega (arith, free-le m g);
-      whole = sym (d .whole) ∙ k .whole;
-      seek = sym s ∙ sym (ap (runAt a c) (d .runs)) ∙ k .seek;
-      join = sym j ∙ sym (ap (joined a p c) (d .runs)) ∙ k .join;
+      within = k .within;
+      low = h;
+      whole = ap (λ (x : Sought). x .0) (k .rest);
+      seek = ap (λ (x : Sought). x .1) (k .rest);
+      join = ap (λ (x : Sought). x .2) (k .rest);
     }
 
 run-past : (a c : ℕ) (rs : List Run) → a < c → runAt a c rs ≡ none
@@ -74,12 +76,15 @@ spotted-here {v} {from} {n} {a} {p} {c} {f} {m} {g} k e d =
 
 -- ---- the zone judged whole on the way
 
+apart : {A : Type 0} → false ≡ true → A
+apart e = absurd (let z : _≡_ {A = ℕ} 0 1 = cc in omega arith)
+
 module _ {v : List ℕ} {from n a p c : ℕ} {f : Bool} (k : Coming v from n a p c f) where
   pub coming-broken : {m : ℕ} {g : Bool} → Zoned v from n → c < n → Meets v from n c f m g → m ≡ 0 → walkOf v from n .whole ≡ false
   coming-broken z h e q = sym (k .whole) ∙ ap (λ (w : Walk). w .whole) (walk-broken z h e q)
 
   pub came-here : {st : List ℕ} {i next : ℕ} → a ≤ c → Clear st i (from + 64 * c) next → Came v st i from n a true p c f next
-  came-here h l = record { broken = λ e. let z : _≡_ {A = ℕ} 0 1 = cc in absurd (omega arith); coming = λ e. k; past = λ e. h; clear = λ e. l }
+  came-here h l = record { broken = λ e. apart (sym e); coming = λ e. k; past = λ e. h; clear = λ e. l }
 
   pub located-none : {x : Bool} → a < c → x ≡ walkOn f (restOf v from n c) .whole → Located v from n a x 0 0 false
   located-none h e = record { whole-is = e ∙ k .whole; spotted = λ y. spotted-none k h refl }
@@ -87,17 +92,12 @@ module _ {v : List ℕ} {from n a p c : ℕ} {f : Bool} (k : Coming v from n a p
   pub located-here : {x : Bool} {m : ℕ} {g : Bool} → c ≡ a → Passed v from n c f m g → x ≡ walkOn g (restOf v from n (c + m)) .whole → Located v from n a x p m g
   located-here q d e = record { whole-is = e ∙ sym (d .whole) ∙ k .whole; spotted = λ y. spotted-here k q d }
 
-pub came-broken : {v st : List ℕ} {i from n a p c next : ℕ} {f : Bool} → walkOf v from n .whole ≡ false → Came v st i from n a false p c f next
-came-broken e =
-    record {
-      broken = λ y. e;
-      coming = λ y. let z : _≡_ {A = ℕ} 0 1 = cc in absurd (omega arith);
-      past = λ y. let z : _≡_ {A = ℕ} 0 1 = cc in absurd (omega arith);
-      clear = λ y. let z : _≡_ {A = ℕ} 0 1 = cc in absurd (omega arith);
-    }
+pub came-broken : {v st : List ℕ} {i from n a p c next : ℕ} {f : Bool} → sought a p c (record { runs = []; whole = false }) ≡ sought a 0 0 (walkOf v from n)
+    → Came v st i from n a false p c f next
+came-broken e = record { broken = λ y. sym (ap (λ (x : Sought). x .0) e); coming = apart; past = apart; clear = apart }
 
 pub located-broken : {v : List ℕ} {from n a p m : ℕ} {f : Bool} → walkOf v from n .whole ≡ false → Located v from n a false p m f
-located-broken e = record { whole-is = sym e; spotted = λ y. let z : _≡_ {A = ℕ} 0 1 = cc in absurd (omega arith) }
+located-broken e = record { whole-is = sym e; spotted = apart }
 
 pub stands-run : {v : List ℕ} {from n a p m : ℕ} {f : Bool} (s : Stands v from n a p m f) → runAt a 0 (walkOf v from n .runs) ≡ some (s .passed .that)
 unfolding runAt

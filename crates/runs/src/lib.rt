@@ -28,8 +28,8 @@ pub struct Step {
     pub next: usize,
 }
 
-// How far the walk to a cell came: whether it met no broken run, the free cells right before the cell it came to, that cell, whether a free
-// run stands before it, and a place up to which no entry has a target from there on.
+// How far the walk to a cell came: whether it met no broken run; and where it met none, the free cells right before the cell it came to, that
+// cell, whether a free run stands right before it, and a place up to which no entry has a target from there on.
 struct Way {
     whole: bool,
     prior: usize,
@@ -167,7 +167,7 @@ pub fn whole_from(
     true
 }
 
-// The walk to the first run that begins at or behind cell `a`.
+// The walk to cell `a`, or to the end of the run that covers it.
 fn walk_to(pool: &[u8], staging: &[u8], count: usize, zone: Zone, a: usize) -> Way
     requires { ⌜ Staged (now pool) (now staging) count × Zoned (now pool) (zone .from) (zone .cells) × (a < zone .cells) ⌝ }
     ensures { λ r. ⌜ Came (seen (now (pool .entry)) (now (staging .entry)) count) (now (staging .entry)) count (zone .from) (zone .cells) a (r .whole) (r .prior) (r .cell) (r .after) (r .next) ⌝ }

@@ -2,24 +2,26 @@
 use Prim.Native.Nat.{ℕ, _+_, _*_, _≤_, _<_}
 use mathlib.Core.Path.{_≡_, refl, sym, ap, _∙_}
 use mathlib.Core.Bool.{Bool, true, false}
-use mathlib.Core.List.{List, [], _++_, append-nil}
+use mathlib.Core.List.{List, [], _++_, append-assoc, append-nil}
+use native.Mathlib.Nat.{add-zero}
 use native.Mathlib.Omega.{arith}
 use lib.ListN.{length, length-drop}
 use lib.Seq.{length-take-le}
 use lib.Dec.{eqb}
 use Rattle.rules.specs.Check.{check}
-use Rattle.rules.specs.Runs.{Run, cells, covered, free, headCells, headCheck, headLength, headTag, isFree, object}
+use Rattle.rules.specs.Runs.{Run, Walk, cells, covered, free, headCells, headCheck, headLength, headTag, isFree, object}
 use Rattle.rules.specs.Scan.{brokenLine, runLine, zoneLines}
 use Rattle.stage.specs.View.{part, seen}
 use Rattle.stage.proofs.View.{seen-none}
-use Rattle.runs.specs.Rest.{Meets, Passed, Zoned, restOf, walkOn}
-use Rattle.runs.proofs.Rest.{walk-broken, walk-end, walk-start}
+use Rattle.runs.specs.Rest.{Meets, Passed, Zoned}
+use Rattle.runs.proofs.Rest.{walk-broken}
+use Rattle.runs.proofs.Walking.{Walking, walking-end, walking-start, walking-step, walking-stop}
 use Rattle.objects.specs.Named.{objectRun}
 use Rattle.objects.proofs.Naming.{passed-object}
 use Rattle.scrub.specs.Counted.{ObjectThere}
 use Rattle.scrub.proofs.Counting.{body-room}
 use Rattle.print.specs.Put.{Put}
-use Rattle.print.proofs.Put.{Putting, put-as, putting-end, putting-start, putting-step}
+use Rattle.print.proofs.Put.{put-as, put-then}
 use Rattle.scan.specs.Lined.{Lined, objectLine, zoneText}
 use Rattle.scan.proofs.Lines.{object-line}
 
@@ -57,43 +59,39 @@ module _ {p : List ℕ} {from n c : ℕ} {after : Bool} {m : ℕ} {f : Bool} {z 
   pub lined-object : Passed p from n c after m f → f ≡ false → Put 64 l a (runLine z c (objectRun p (from + 64 * c) (part 16 (from + 64 * c) p))) l′ r → Lined p from n z c after l a l′ r m f
   lined-object d g q = lined-run d (objectRun p (from + 64 * c) (part 16 (from + 64 * c) p)) (sym (passed-object d g refl .is)) q
 
--- ---- a zone's lines
+-- ---- the loop over a zone's runs
 
--- those from cell c on
-unfoldable pub restText : List ℕ → ℕ → ℕ → ℕ → ℕ → Bool → List ℕ
-restText v from n z c after = zoneLines z c (walkOn after (restOf v from n c) .runs) (walkOn after (restOf v from n c) .whole)
+-- the text before cell c, and the lines of the walk w from there on
+abbrev pub linesFrom : ℕ → List ℕ → ℕ → Walk → List ℕ
+linesFrom z text c w = text ++ zoneLines z c (w .runs) (w .whole)
 
 pub record Listing (v : List ℕ) (from n z : ℕ) (l : List ℕ) (a : ℕ) (l′ : List ℕ) (r c : ℕ) (after : Bool) : Type 0 where
-  pub within : c ≤ n
-  pub most : r ≤ a + 64 * c
-  pub putting : Putting l a (zoneText v from n z) l′ r (restText v from n z c after)
+  pub text : List ℕ
+  pub walking : Walking (linesFrom z text c) (zoneText v from n z) v from n c after
+  pub put : Put (64 * c) l a text l′ r
 
-pub listing-start : (v : List ℕ) (from n z : ℕ) (l : List ℕ) (a : ℕ) → Listing v from n z l a l a 0 false
-unfolding zoneText restText
-listing-start v from n z l a = record { within = omega arith; most = omega arith; putting = rw (walk-start v from n) (putting-start l a (zoneText v from n z)) }
+pub listing-start : {v : List ℕ} {from n : ℕ} (z : ℕ) (l : List ℕ) (a : ℕ) → Zoned v from n → Listing v from n z l a l a 0 false
+unfolding zoneText
+listing-start z l a y = record { text = []; walking = walking-start y refl; put = record { stored = refl; ends = sym (add-zero a); most = omega arith } }
 
 module _ {v : List ℕ} {from n z : ℕ} {l : List ℕ} {a : ℕ} {l′ : List ℕ} {r c : ℕ} {after : Bool} (s : Listing v from n z l a l′ r c after) where
   pub listing-step : {l″ : List ℕ} {r′ m : ℕ} {f : Bool} → Lined v from n z c after l′ r l″ r′ m f → (m ≡ 0 → ⊥) → Listing v from n z l a l″ r′ (c + m) f
-  unfolding restText zoneLines
+  unfolding zoneLines
   listing-step {m = m} {f} q k =
       let u = q .run k in
       let d = u .passed in
-      let e : restText v from n z c after ≡ runLine z c (d .that) ++ restText v from n z (c + m) f = rw (d .runs, d .whole, ← (d .cells-is)) in
       record {
-        within = d .within;
-        most = omega (arith, s .most, u .line .most, d .some);
-        putting = putting-step (rw e at (s .putting)) (u .line);
+        text = s .text ++ runLine z c (d .that);
+        walking = walking-step (s .walking) d (λ w. rw (d .cells-is) (sym (append-assoc (s .text) (runLine z c (d .that)) (zoneLines z (c + m) (w .runs) (w .whole)))));
+        put = put-as (put-then (s .put) (u .line)) refl (omega (arith, d .some));
       }
 
   pub listing-broken : {l″ : List ℕ} {r′ m : ℕ} {f : Bool} → Lined v from n z c after l′ r l″ r′ m f → m ≡ 0 → c < n → Put (64 * n) l a (zoneText v from n z) l″ r′
-  unfolding restText zoneLines
+  unfolding zoneLines
   listing-broken q k h =
       let u = q .broken k in
-      let e : restText v from n z c after ≡ brokenLine z c ++ [] = rw (u .walk) (sym (append-nil (brokenLine z c))) in
-      putting-end (putting-step (rw e at (s .putting)) (u .line)) (omega (arith, s .most, u .line .most))
+      put-as (put-then (s .put) (u .line)) (walking-stop (s .walking) (u .walk)) (omega arith)
 
-  pub listing-end : Zoned v from n → n ≤ c → Put (64 * n) l a (zoneText v from n z) l′ r
-  unfolding restText zoneLines
-  listing-end y h =
-      let e : restText v from n z c after ≡ [] = rw (walk-end c after y h) in
-      putting-end (rw e at (s .putting)) (omega (arith, s .most, s .within))
+  pub listing-end : n ≤ c → Put (64 * n) l a (zoneText v from n z) l′ r
+  unfolding zoneLines
+  listing-end h = put-as (s .put) (sym (append-nil (s .text)) ∙ walking-end (s .walking) h) (omega (arith, s .walking .within))

@@ -1,5 +1,5 @@
 -- The lines of the pool, zone by zone, and their number. Assumes nothing.
-use Prim.Native.Nat.{ℕ, suc, _+_, _-_, _*_, _≤_, _<_}
+use Prim.Native.Nat.{ℕ, _+_, _-_, _*_, _≤_, _<_}
 use mathlib.Core.Path.{_≡_, ap, _∙_}
 use mathlib.Core.List.{List, _++_}
 use native.Mathlib.Nat.{le-refl, mul-assoc, mul-le-mul, mul-le-mul-right, sub-zero, suc-mul}
@@ -8,6 +8,7 @@ use native.Mathlib.Omega.{arith}
 use lib.ListN.{length}
 use Rattle.rules.specs.Shape.{Shape as PoolShape, poolSize, zoneCells}
 use Rattle.rules.specs.Scan.{zonesText}
+use Rattle.rules.proofs.Numbers.{less}
 use Rattle.layout.specs.declared.Shape.{Shape}
 use Rattle.layout.specs.Reading.{Shaped, shapeOf}
 use Rattle.layout.proofs.Range.{shape-good}
@@ -30,13 +31,12 @@ module _ {s : PoolShape} {v l : List ℕ} {a : ℕ} {l′ : List ℕ} {r z : ℕ
   pub zones-step : z < s .zones → {from n : ℕ} → ZoneIs s z from n → {l″ : List ℕ} {r′ : ℕ} → Put (64 * n) l′ r (zoneText v from n z) l″ r′ → ListingZones s v l a l″ r′ (z + 1)
   unfolding zonesText zoneText
   zones-step h {from} {n} e q =
-      let d : s .zones - z ≡ suc (s .zones - suc z) = omega arith in
-      let t : zonesText s v z (s .zones - z) ≡ zoneText v from n z ++ zonesText s v (suc z) (s .zones - suc z) = rw (d, walk-in v e) in
+      let t : zonesText s v z (s .zones - z) ≡ zoneText v from n z ++ zonesText s v (z + 1) (s .zones - (z + 1)) = rw (less (s .zones) z h, walk-in v e, add-one z) in
       let m : (z + 1) * zoneCells s ≡ z * zoneCells s + zoneCells s = ap (λ (x : ℕ). x * zoneCells s) (add-one z) ∙ suc-mul z (zoneCells s) in
       record {
         within = omega arith;
         most = omega (arith, i .most, q .most, m, e .cells-is);
-        putting = rw add-one (putting-step (rw t at (i .putting)) q);
+        putting = putting-step (rw t at (i .putting)) q;
       }
 
   pub zones-end : s .zones ≤ z → Put (64 * (s .zones * zoneCells s)) l a (zonesText s v 0 (s .zones)) l′ r

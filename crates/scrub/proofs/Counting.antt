@@ -1,9 +1,9 @@
 -- The runs of a zone counted, one run further on. Assumes nothing.
 use Prim.Native.Nat.{ℕ, _+_, _*_, _≤_, _<_}
-use mathlib.Core.Path.{_≡_, refl, ap, _∙_}
+use mathlib.Core.Path.{_≡_, refl, sym, ap, ap₂, _∙_}
 use mathlib.Core.Bool.{Bool, true, false, not, cond}
-use mathlib.Core.List.{List, []}
-use native.Mathlib.Nat.{zero-add}
+use mathlib.Core.List.{List, [], _∷_}
+use native.Mathlib.Nat.{add-assoc}
 use native.Mathlib.Omega.{arith}
 use lib.Dec.{eqb}
 use lib.ListN.{length}
@@ -13,8 +13,8 @@ use Rattle.rules.specs.Scrub.{countRuns}
 use Rattle.rules.proofs.Bool.{split}
 use Rattle.stage.specs.View.{part, seen}
 use Rattle.stage.proofs.View.{seen-none}
-use Rattle.runs.specs.Rest.{Meets, Passed, Zoned, restOf, walkOf, walkOn}
-use Rattle.runs.proofs.Rest.{Judging, judging-broken, judging-end, judging-start, judging-step, walk-broken, walk-end, walk-passed, walk-start}
+use Rattle.runs.specs.Rest.{Meets, Passed, Zoned, walkOf}
+use Rattle.runs.proofs.Rest.{walk-passed}
 use Rattle.objects.specs.Named.{objectRun}
 use Rattle.objects.proofs.Naming.{body-inside, passed-object}
 use Rattle.scrub.specs.Counted.{ObjectThere, Tallied, damagedAt}
@@ -22,7 +22,7 @@ use Rattle.scrub.specs.Counted.{ObjectThere, Tallied, damagedAt}
 -- ---- one run
 
 -- with no entries the view is the pool itself
-meets-pool : {v : List ℕ} (st : List ℕ) {from n c : ℕ} {a : Bool} {m : ℕ} {f : Bool} → Meets (seen v st 0) from n c a m f → Meets v from n c a m f
+pub meets-pool : {v : List ℕ} (st : List ℕ) {from n c : ℕ} {a : Bool} {m : ℕ} {f : Bool} → Meets (seen v st 0) from n c a m f → Meets v from n c a m f
 meets-pool {v} st e = rw (seen-none v st) at e
 
 pub pool-passed : {v : List ℕ} (st : List ℕ) {from n c : ℕ} {a : Bool} {m : ℕ} {f : Bool} → Zoned v from n → c < n → Meets (seen v st 0) from n c a m f → (m ≡ 0 → ⊥)
@@ -60,63 +60,22 @@ pub object-at : (v st : List ℕ) (a : ℕ) {f : Bool} {h : List ℕ} {x : Bool}
 unfolding damagedAt objectRun
 object-at v st a e q l k = rw (e, k, l, q, seen-none v st)
 
--- ---- the runs up to cell c: k have the property f
+-- ---- the loop over a zone's runs: o objects, d of them damaged before the walk w
 
-pub record Counting (f : Run → Bool) (v : List ℕ) (from n c : ℕ) (a : Bool) (k : ℕ) : Type 0 where
-  pub rest : k + countRuns f (walkOn a (restOf v from n c) .runs) ≡ countRuns f (walkOf v from n .runs)
-  pub few : k ≤ c
+abbrev pub Tallies : Type 0
+Tallies = ℕ × ℕ × Bool
 
-counting-start : (f : Run → Bool) (v : List ℕ) (from n : ℕ) → Counting f v from n 0 false 0
-counting-start f v from n = record { rest = zero-add _ ∙ ap (λ (w : Walk). countRuns f (w .runs)) (walk-start v from n); few = omega arith }
+abbrev pub tallies : ℕ → ℕ → Walk → Tallies
+tallies o d w = (o + countRuns (λ r. not (isFree r)) (w .runs), d + countRuns (λ r. not (isGood r)) (w .runs), w .whole)
 
-counting-step : {f : Run → Bool} {v : List ℕ} {from n c : ℕ} {a : Bool} {k m j : ℕ} {g : Bool} → Counting f v from n c a k → (d : Passed v from n c a m g)
-    → j ≡ cond (f (d .that)) 1 0 → j ≤ 1 → Counting f v from n (c + m) g (k + j)
+pub tallies-step : (o d : ℕ) {v : List ℕ} {from n c : ℕ} {a : Bool} {m i j : ℕ} {f x : Bool} (p : Passed v from n c a m f) → i ≡ cond (not f) 1 0
+    → x ≡ damagedAt v (from + 64 * c) f → j ≡ cond x 1 0 → (w : Walk) → tallies o d (record { runs = p .that ∷ w .runs; whole = w .whole }) ≡ tallies (o + i) (d + j) w
 unfolding countRuns
-counting-step i d e h = let q = rw (d .runs) at (i .rest) in record { rest = omega (arith, q); few = omega (arith, i .few, d .some) }
+tallies-step o d p e q l w = rw (p .free-is, ← (run-damaged p), ← q, ← e, ← l) (ap₂ (λ (x y : ℕ). (x, y, w .whole)) (sym (add-assoc o _ _)) (sym (add-assoc d _ _)))
 
-counting-end : {f : Run → Bool} {v : List ℕ} {from n c : ℕ} {a w : Bool} {k : ℕ} → Counting f v from n c a k → walkOn a (restOf v from n c) ≡ record { runs = []; whole = w }
-    → k ≡ countRuns f (walkOf v from n .runs)
+pub tallied : {v : List ℕ} {from n o d : ℕ} {w : Bool} → tallies o d (record { runs = []; whole = w }) ≡ tallies 0 0 (walkOf v from n) → o ≤ n → d ≤ n → Tallied v from n o d w
 unfolding countRuns
-counting-end i e = let q = rw e at (i .rest) in omega (arith, q)
-
--- ---- the loop over a zone's runs: o objects, d of them damaged
-
-pub record Tallying (v : List ℕ) (from n c : ℕ) (a : Bool) (o d : ℕ) : Type 0 where
-  pub judging : Judging v from n 0 false c a
-  pub objects : Counting (λ r. not (isFree r)) v from n c a o
-  pub damaged : Counting (λ r. not (isGood r)) v from n c a d
-
-pub tallying-start : (v : List ℕ) (from n : ℕ) → Tallying v from n 0 false 0 0
-tallying-start v from n = record { judging = judging-start v from n false (omega arith); objects = counting-start _ v from n; damaged = counting-start _ v from n }
-
-pub tallying-step : {v : List ℕ} {from n c : ℕ} {a : Bool} {o d m i j : ℕ} {f x : Bool} → Tallying v from n c a o d → Passed v from n c a m f
-    → (i ≡ cond (not f) 1 0) × (i ≤ 1) → x ≡ damagedAt v (from + 64 * c) f → (j ≡ cond x 1 0) × (j ≤ 1) → Tallying v from n (c + m) f (o + i) (d + j)
-tallying-step t p e q l =
-    record {
-      judging = judging-step (t .judging) p;
-      objects = counting-step (t .objects) p (rw (p .free-is) (e .0)) (e .1);
-      damaged = counting-step (t .damaged) p (rw (← (run-damaged p), ← q) (l .0)) (l .1);
-    }
-
-pub tallying-broken : {v : List ℕ} (st : List ℕ) {from n c : ℕ} {a : Bool} {o d m : ℕ} {f : Bool} → Tallying v from n c a o d → Zoned v from n → c < n
-    → Meets (seen v st 0) from n c a m f → m ≡ 0 → Tallied v from n o d false
-tallying-broken {v} st {from} {n} t z h e k =
-    let w = walk-broken z h (meets-pool st e) k in
-    record {
-      objects = counting-end (t .objects) w;
-      damaged = counting-end (t .damaged) w;
-      whole = judging-broken (t .judging) z h (meets-pool st e) k ∙ ap (λ (x : Walk). x .whole) (walk-start v from n);
-      few = omega (arith, t .objects .few, t .judging .within);
-      fewer = omega (arith, t .damaged .few, t .judging .within);
-    }
-
-pub tallying-end : {v : List ℕ} {from n c : ℕ} {a : Bool} {o d : ℕ} → Tallying v from n c a o d → Zoned v from n → n ≤ c → Tallied v from n o d true
-tallying-end {v} {from} {n} {c} {a} t z h =
-    let w = walk-end c a z h in
-    record {
-      objects = counting-end (t .objects) w;
-      damaged = counting-end (t .damaged) w;
-      whole = judging-end (t .judging) z h ∙ ap (λ (x : Walk). x .whole) (walk-start v from n);
-      few = omega (arith, t .objects .few, t .judging .within);
-      fewer = omega (arith, t .damaged .few, t .judging .within);
-    }
+tallied e h k =
+    let i = ap (λ (x : Tallies). x .0) e in
+    let j = ap (λ (x : Tallies). x .1) e in
+    record { objects = omega (arith, i); damaged = omega (arith, j); whole = ap (λ (x : Tallies). x .2) e; few = h; fewer = k }

@@ -1,5 +1,5 @@
 -- The zones of a pool counted, one zone further on. Assumes nothing.
-use Prim.Native.Nat.{ℕ, suc, _+_, _-_, _*_, _≤_, _<_}
+use Prim.Native.Nat.{ℕ, _+_, _-_, _*_, _≤_, _<_}
 use mathlib.Core.Path.{_≡_, refl, ap, _∙_}
 use mathlib.Core.Bool.{Bool, not, cond}
 use mathlib.Core.List.{List}
@@ -10,6 +10,7 @@ use Rattle.rules.specs.Shape.{Shape as PoolShape}
 use Rattle.rules.specs.Runs.{Run, isFree, isGood}
 use Rattle.rules.specs.Zones.{runsFrom, walkIn}
 use Rattle.rules.specs.Scrub.{brokenZones, countRuns, countTo, damagedMet, objectsMet, wrongColumns}
+use Rattle.rules.proofs.Numbers.{less}
 use Rattle.rules.proofs.Scrub.{count-append}
 use Rattle.layout.specs.declared.Shape.{Shape}
 use Rattle.layout.specs.Reading.{InRange, shapeOf}
@@ -35,9 +36,8 @@ runs-step : {f : Run → Bool} {s : PoolShape} {v : List ℕ} {z k from n j : �
     → j ≡ countRuns f (walkOf v from n .runs) → j ≤ n → n ≤ 65536 → CountingRuns f s v (z + 1) (k + j)
 unfolding runsFrom
 runs-step {f} {s} {v} {z} {k} i h e q l b =
-    let d : s .zones - z ≡ suc (s .zones - suc z) = omega arith in
-    let r = rw (d, walk-in v e, count-append f) at (i .rest) in
-    record { rest = rw add-one (omega (arith, r)); few = omega (arith, i .few) }
+    let r = rw (less (s .zones) z h, walk-in v e, count-append f, ← (add-one z)) at (i .rest) in
+    record { rest = omega (arith, r); few = omega (arith, i .few) }
 
 runs-end : {f : Run → Bool} {s : PoolShape} {v : List ℕ} {z k : ℕ} → CountingRuns f s v z k → s .zones ≤ z → k ≡ countRuns f (runsFrom s v 0 (s .zones))
 unfolding runsFrom countRuns

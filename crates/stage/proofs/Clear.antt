@@ -1,5 +1,5 @@
 -- Where no entry has a target, the staged view's bytes are the pool's (`part-clear`); the search for the lowest target. Assumes nothing.
-use Prim.Native.Nat.{ℕ, suc, _+_, _-_, _*_, _%_, _≤_, _<_}
+use Prim.Native.Nat.{ℕ, _+_, _-_, _*_, _%_, _≤_, _<_}
 use mathlib.Core.Path.{_≡_, refl, sym, _∙_}
 use mathlib.Core.List.{List, [], _∷_}
 use native.Mathlib.Nat.{sub-zero}
@@ -9,6 +9,7 @@ use borrow.Author.Tests.{leb-true, leb-false}
 use Rattle.rules.specs.Words.{digits, put, word}
 use Rattle.rules.specs.Staging.{Store, Tidy, entriesAt, lay}
 use Rattle.rules.proofs.Bool.{split}
+use Rattle.rules.proofs.Numbers.{less}
 use Rattle.rules.proofs.Words.{length-digits}
 use Rattle.rules.proofs.Sets.{part-sets-before, part-sets-behind}
 use Rattle.words.specs.Loaded.{Loaded}
@@ -61,9 +62,6 @@ part-pool {pool} {st} n s e h f = rw (seen-none pool st) (sym (part-clear n s e 
 pub record Lowest (st : List ℕ) (n a best i : ℕ) : Type 0 where
   pub le : i ≤ n
   pub rest : (r : ℕ) → r ≤ best → NoneWithin a r (entriesAt st (16 * i) (n - i)) → NoneWithin a r (entriesOf st n)
-
-less : (n k : ℕ) → k < n → n - k ≡ suc (n - (k + 1))
-less n k h = omega arith
 
 pub lowest-start : (st : List ℕ) (n a best : ℕ) → Lowest st n a best 0
 unfolding entriesOf

@@ -12,6 +12,7 @@ use borrow.Author.Tests.{eqb-true, eqb-false, leb-true, leb-false, ne-eqb}
 use Rattle.rules.specs.Words.{word}
 use Rattle.rules.specs.Staging.{Fresh, Store, Tidy, entriesAt}
 use Rattle.rules.proofs.Bool.{split}
+use Rattle.rules.proofs.Numbers.{less}
 use Rattle.words.specs.Loaded.{Loaded}
 use Rattle.stage.specs.View.{entriesOf}
 use Rattle.stage.specs.Touched.{Touched, TouchedWords, added, entriesIn, missing, wordIn}
@@ -47,9 +48,6 @@ word-there (suc n) o t k h e =
     (λ y. let z = eqb-false t o y in let l : o + 8 ≤ t = omega arith in rw y (word-there n (o + 8) t l (omega arith) (omega arith)))
 
 -- ---- one pass over the entries, i of n passed
-
-less : (n k : ℕ) → k < n → n - k ≡ suc (n - (k + 1))
-less n k h = omega arith
 
 pub record Counting (st : List ℕ) (n k o i r : ℕ) : Type 0 where
   pub le : i ≤ n

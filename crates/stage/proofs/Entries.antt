@@ -11,6 +11,7 @@ use borrow.Author.Tests.{eqb-false, eq-eqb, ne-eqb}
 use Rattle.rules.specs.Words.{field, put, word}
 use Rattle.rules.specs.Staging.{Fresh, Store, entriesAt, touch}
 use Rattle.rules.proofs.Bool.{split}
+use Rattle.rules.proofs.Numbers.{less}
 use Rattle.rules.proofs.Words.{word-put-other}
 use Rattle.rules.proofs.Transaction.{entries-count}
 use Rattle.stage.specs.View.{entriesOf}
@@ -25,9 +26,6 @@ length-entries st n = entries-count st 0 n
 
 unfoldable pub slotFrom : List ℕ → ℕ → ℕ → ℕ → ℕ
 slotFrom st o n i = i + slot o (entriesAt st (16 * i) (n - i))
-
-less : (n k : ℕ) → k < n → n - k ≡ suc (n - (k + 1))
-less n k h = omega arith
 
 pub record Searching (st : List ℕ) (n o i : ℕ) : Type 0 where
   pub le : i ≤ n

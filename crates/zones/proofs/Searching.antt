@@ -1,9 +1,9 @@
 -- The search for free cells, some zones and some runs further on. Assumes nothing.
-use Prim.Native.Nat.{ℕ, suc, _+_, _-_, _≤_, _<_}
+use Prim.Native.Nat.{ℕ, _+_, _-_, _≤_, _<_}
 use mathlib.Core.Path.{_≡_, sym, ap, _∙_}
 use mathlib.Core.Bool.{Bool, true, false, cond, _&&_}
 use mathlib.Core.Option.{some}
-use mathlib.Core.List.{List, _∷_}
+use mathlib.Core.List.{List, [], _∷_}
 use native.Mathlib.Nat.{sub-zero}
 use native.Mathlib.Numerals.{add-one}
 use native.Mathlib.Omega.{arith}
@@ -13,30 +13,28 @@ use Rattle.rules.specs.Runs.{Run, Walk, cells, free, isFree, object}
 use Rattle.rules.specs.Search.{fit}
 use Rattle.rules.specs.Zones.{walkIn, zoneData}
 use Rattle.rules.specs.Plan.{Fit, failed, fitIn, fitted, search}
+use Rattle.rules.proofs.Numbers.{less}
 use Rattle.stage.specs.View.{part}
-use Rattle.runs.specs.Rest.{Meets, Passed, Zoned, restOf, walkOf, walkOn}
-use Rattle.runs.proofs.Rest.{walk-broken, walk-end, walk-start}
+use Rattle.runs.specs.Rest.{Passed, walkOf}
 use Rattle.zones.specs.Found.{ZoneIs}
-
-less : (n k : ℕ) → k < n → n - k ≡ suc (n - suc k)
-less n k h = omega arith
 
 pub walk-in : {s : Shape} (v : List ℕ) {z from n : ℕ} → ZoneIs s z from n → walkIn s v z ≡ walkOf v from n
 unfolding walkIn zoneData walkOf part
 walk-in v e = rw (e .from-is, e .cells-is)
 
--- the search from zone z on; and from cell c of zone z on, where the walk w is left of the zone
+-- the search from zone z on; and from cell c of zone z on, where the walk from there on is w
 unfoldable pub zonesFrom : Shape → List ℕ → ℕ → ℕ → Fit
 zonesFrom s v k z = search s v k z (s .zones - z)
 
-unfoldable pub cellsFrom : Shape → List ℕ → ℕ → ℕ → ℕ → Walk → Fit
+abbrev pub cellsFrom : Shape → List ℕ → ℕ → ℕ → ℕ → Walk → Fit
 cellsFrom s v k z c w = cond (w .whole) (fitIn z (fit k c (w .runs)) (zonesFrom s v k (z + 1))) (failed 23)
+
+-- a run of n cells at cell c fits, if its zone is unbroken
+abbrev pub fitOr : ℕ → ℕ → ℕ → Bool → Fit
+fitOr z c n whole = cond whole (fitted z (record { cell = c; count = n })) (failed 23)
 
 pub record Outside (s : Shape) (v : List ℕ) (k z : ℕ) : Type 0 where
   pub rest : zonesFrom s v k z ≡ search s v k 0 (s .zones)
-
-pub record Inside (s : Shape) (v : List ℕ) (k z from n c : ℕ) (a : Bool) : Type 0 where
-  pub rest : cellsFrom s v k z c (walkOn a (restOf v from n c)) ≡ search s v k 0 (s .zones)
 
 pub outside-start : (s : Shape) (v : List ℕ) (k : ℕ) → Outside s v k 0
 unfolding zonesFrom
@@ -46,10 +44,13 @@ pub outside-end : {s : Shape} {v : List ℕ} {k z : ℕ} → Outside s v k z →
 unfolding zonesFrom search
 outside-end {s} {z = z} o h = let e : s .zones - z ≡ 0 = omega arith in rw e at (o .rest)
 
-pub inside-start : {s : Shape} {v : List ℕ} {k z from n : ℕ} → Outside s v k z → z < s .zones → ZoneIs s z from n → Inside s v k z from n 0 false
-unfolding zonesFrom cellsFrom search
-inside-start {s} {v} {k} {z} {from} {n} o h e =
-    record { rest = rw (walk-start v from n, add-one z) (rw (less (s .zones) z h, walk-in v e) at (o .rest)) }
+pub inside-start : {s : Shape} {v : List ℕ} {k z from n : ℕ} → Outside s v k z → z < s .zones → ZoneIs s z from n → cellsFrom s v k z 0 (walkOf v from n) ≡ search s v k 0 (s .zones)
+unfolding zonesFrom search
+inside-start {s} {v} {k} {z} o h e = rw add-one (rw (less (s .zones) z h, walk-in v e, add-one z) at (o .rest))
+
+pub inside-end : {s : Shape} {v : List ℕ} {k : ℕ} (z c : ℕ) → cellsFrom s v k z c (record { runs = []; whole = true }) ≡ search s v k 0 (s .zones) → Outside s v k (z + 1)
+unfolding fit fitIn
+inside-end z c e = record { rest = e }
 
 -- a run that is too short, or no free run, is passed; a free run of k cells or more fits
 fit-pass : (k c : ℕ) (r : Run) (rs : List Run) (m : ℕ) → (isFree r && leb k m) ≡ false → cells r ≡ m → fit k c (r ∷ rs) ≡ fit k (c + m) rs
@@ -62,28 +63,10 @@ unfolding fit
 fit-hit k c (object n t b g) rs m h e = absurd (let q : _≡_ {A = ℕ} 0 1 = cc in omega arith)
 fit-hit k c (free n) rs m h e = let q : leb k n ≡ true = ap (leb k) e ∙ h in rw (q, ← e)
 
-module _ {s : Shape} {v : List ℕ} {k z from n c : ℕ} {a : Bool} (i : Inside s v k z from n c a) where
-  pub inside-broken : {m : ℕ} {f : Bool} → Zoned v from n → c < n → Meets v from n c a m f → m ≡ 0 → failed 23 ≡ search s v k 0 (s .zones)
-  unfolding cellsFrom
-  inside-broken g h e q = rw (walk-broken g h e q) at (i .rest)
+module _ (s : Shape) (k z : ℕ) {v : List ℕ} {from n c : ℕ} {a : Bool} {m : ℕ} {f : Bool} (q : Passed v from n c a m f) where
+  pub inside-pass : {b : Bool} → b ≡ (f && leb k m) → b ≡ false → (w : Walk) → cellsFrom s v k z c (record { runs = q .that ∷ w .runs; whole = w .whole }) ≡ cellsFrom s v k z (c + m) w
+  inside-pass p h w = rw (fit-pass k c (q .that) (w .runs) m (rw (q .free-is) (sym p ∙ h)) (q .cells-is))
 
-  pub inside-end : Zoned v from n → n ≤ c → Outside s v k (z + 1)
-  unfolding cellsFrom fit fitIn
-  inside-end g h = record { rest = rw (walk-end c a g h) at (i .rest) }
-
-  module _ {m : ℕ} {f : Bool} (q : Passed v from n c a m f) where
-    pub inside-pass : {w : Bool} → w ≡ (f && leb k m) → w ≡ false → Inside s v k z from n (c + m) f
-    unfolding cellsFrom
-    inside-pass p h =
-        record { rest = rw (q .whole, q .runs, fit-pass k c (q .that) (walkOn f (restOf v from n (c + m)) .runs) m (rw (q .free-is) (sym p ∙ h)) (q .cells-is)) at (i .rest) }
-
-    -- the rest of the zone behind a run that fits is judged
-    pub inside-hit : {w x : Bool} → w ≡ (f && leb k m) → w ≡ true → x ≡ walkOn f (restOf v from n (c + m)) .whole → x ≡ true
-        → fitted z (record { cell = c; count = m }) ≡ search s v k 0 (s .zones)
-    unfolding cellsFrom fitIn
-    inside-hit p h e t =
-        rw (q .whole, sym e ∙ t, q .runs, fit-hit k c (q .that) (walkOn f (restOf v from n (c + m)) .runs) m (rw (q .free-is) (sym p ∙ h)) (q .cells-is)) at (i .rest)
-
-    pub inside-broken-behind : {x : Bool} → x ≡ walkOn f (restOf v from n (c + m)) .whole → x ≡ false → failed 23 ≡ search s v k 0 (s .zones)
-    unfolding cellsFrom
-    inside-broken-behind e t = rw (q .whole, sym e ∙ t) at (i .rest)
+  pub inside-hit : {b : Bool} → b ≡ (f && leb k m) → b ≡ true → (w : Walk) → cellsFrom s v k z c (record { runs = q .that ∷ w .runs; whole = w .whole }) ≡ fitOr z c m (w .whole)
+  unfolding fitIn
+  inside-hit p h w = rw (fit-hit k c (q .that) (w .runs) m (rw (q .free-is) (sym p ∙ h)) (q .cells-is))

@@ -1,64 +1,53 @@
 -- `runs::walk_to` meets its contract. Assumes nothing.
-use Prim.Native.Nat.{_+_, _*_, _-_, _<_}
+use Prim.Native.Nat.{_+_, _*_, _-_, _≤_}
+use mathlib.Core.Path.{refl}
 use Rattle.stage.specs.View.{seen}
 use Rattle.stage.specs.Clear.{Clear}
 use Rattle.stage.proofs.Clear.{clear-empty, clear-later}
-use Rattle.runs.specs.Spotted.{Coming}
-use Rattle.runs.proofs.Rest.{walk-passed, zoned-seen}
-use Rattle.runs.proofs.Spotted.{came-broken, came-here, coming-broken, coming-start, coming-step}
+use Rattle.runs.specs.Rest.{walkOf}
+use Rattle.runs.proofs.Rest.{zoned-seen}
+use Rattle.runs.proofs.Walking.{Walking, walking-broken, walking-passed, walking-start, walking-step}
+use Rattle.runs.proofs.Spotted.{came-broken, came-here, coming-is, free-low, sought, sought-step}
 use borrow.Author.Needs.{needs}
 use native.Mathlib.Omega.{arith}
 use Rattle.runs.proofs.walk_to.Statement.{statement}
 use Rattle.runs.proofs.walk_to.Tie as tie
 
 abbrev Inv-loop : tie.InvT-loop
-Inv-loop pool staging count zone a prior₀ c₀ after₀ next₀ prior c after next = Coming (seen pool staging count) (zone .from) (zone .cells) a prior c after × Clear staging count (zone .from + 64 * c) next
+Inv-loop pool staging count zone a prior₀ c₀ after₀ next₀ prior c after next =
+    Walking (sought a prior c) (sought a 0 0 (walkOf (seen pool staging count) (zone .from) (zone .cells))) (seen pool staging count) (zone .from) (zone .cells) c after
+    × (prior ≤ c) × Clear staging count (zone .from + 64 * c) next
 
 abbrev μ-loop : tie.MeasureT-loop
 μ-loop pool staging count zone a prior₀ c₀ after₀ next₀ prior c after next = zone .cells - c
 
 loop-holds : tie.Need-loop-holds Inv-loop μ-loop
-loop-holds c = let s = c .before .before in (coming-start _ _ _ _, clear-empty (s .args .staging .now) (s .args .count) (omega arith))
+loop-holds c = let s = c .before .before in (walking-start (zoned-seen (s .args .staging .now) (s .args .count) (s .pre .1)) refl, omega arith, clear-empty (s .args .staging .now) (s .args .count) (omega arith))
 
 advance-requires : tie.Need-advance-requires Inv-loop μ-loop
-advance-requires c κs = let s = c .before .before .before .before in (s .pre .0, s .pre .1, omega arith, c .before .loop .inv .1)
+advance-requires c κs = let s = c .before .before .before .before in (s .pre .0, s .pre .1, omega arith, c .before .loop .inv .2)
 
 returns : tie.Need-returns Inv-loop μ-loop
-returns c =
-    let s = c .before .before .before .before .before .before in
-    let l = c .before .before .before .loop in
-    let h : l .c < s .args .zone .cells = omega arith in
-    came-broken (coming-broken (l .inv .0) (zoned-seen (s .args .staging .now) (s .args .count) (s .pre .1)) h (c .before .advance .ensures .0) (c .if1 .taken))
+returns c = came-broken (walking-broken (c .before .before .before .loop .inv .0) (omega arith) (c .before .advance .ensures .0) (c .if1 .taken))
 
 free-cells-requires : tie.Need-free-cells-requires Inv-loop μ-loop
 free-cells-requires c κs = search needs
 
 add-c : tie.Need-add-c Inv-loop μ-loop
-add-c c =
-    let s = c .before .before .before .before .before .before .before in
-    let l = c .before .before .before .before .loop in
-    let h : l .c < s .args .zone .cells = omega arith in
-    let p = walk-passed (zoned-seen (s .args .staging .now) (s .args .count) (s .pre .1)) h (c .before .before .advance .ensures .0) (c .before .if1 .left) in
-    omega (arith, p .within)
+add-c c = let p = walking-passed (c .before .before .before .before .loop .inv .0) (omega arith) (c .before .before .advance .ensures .0) (c .before .if1 .left) in omega (arith, p .within)
 
 loop-less : tie.Need-loop-less Inv-loop μ-loop
-loop-less c =
-    let s = c .before .before .before .before .before .before .before in
-    let l = c .before .before .before .before .loop in
-    let h : l .c < s .args .zone .cells = omega arith in
-    let p = walk-passed (zoned-seen (s .args .staging .now) (s .args .count) (s .pre .1)) h (c .before .before .advance .ensures .0) (c .before .if1 .left) in
-    omega (arith, p .within, p .some)
+loop-less c = let p = walking-passed (c .before .before .before .before .loop .inv .0) (omega arith) (c .before .before .advance .ensures .0) (c .before .if1 .left) in omega (arith, p .within, p .some)
 
 loop-again : tie.Need-loop-again Inv-loop μ-loop
 loop-again c =
-    let s = c .before .before .before .before .before .before .before in
-    let l = c .before .before .before .before .loop in
-    let h : l .c < s .args .zone .cells = omega arith in
-    let p = walk-passed (zoned-seen (s .args .staging .now) (s .args .count) (s .pre .1)) h (c .before .before .advance .ensures .0) (c .before .if1 .left) in
-    (coming-step (l .inv .0) (c .before .before .before .loop-test .taken) p (c .free-cells .ensures), clear-later (omega arith) (c .before .before .advance .ensures .1))
+    let i = c .before .before .before .before .loop .inv .0 in
+    let p = walking-passed i (omega arith) (c .before .before .advance .ensures .0) (c .before .if1 .left) in
+    let e = c .free-cells .ensures in
+    (walking-step i p (sought-step _ (c .before .before .before .loop-test .taken) p e), free-low p e, clear-later (omega arith) (c .before .before .advance .ensures .1))
 
 returns-2 : tie.Need-returns-2 Inv-loop μ-loop
-returns-2 c = came-here (c .before .loop .inv .0) (c .loop-test .left) (c .before .loop .inv .1)
+returns-2 c = let i = c .before .loop .inv in came-here (coming-is (i .0) (i .1)) (c .loop-test .left) (i .2)
 
 pub walk-to-spec : {M : Type 1} → statement M
 walk-to-spec =

@@ -1,5 +1,6 @@
 -- `scan::put_zone` meets its contract. Assumes nothing.
 use Prim.Native.Nat.{_-_}
+use Rattle.print.proofs.Put.{put-length}
 use Rattle.scan.proofs.Listing.{Listing, listing-broken, listing-end, listing-start, listing-step}
 use borrow.Author.Needs.{needs}
 use native.Mathlib.Omega.{arith}
@@ -13,13 +14,13 @@ abbrev μ-loop : tie.MeasureT-loop
 μ-loop pool out₀ at zone z cells to₀ c₀ after₀ out to c after = zone .cells - c
 
 loop-holds : tie.Need-loop-holds Inv-loop μ-loop
-loop-holds c = listing-start _ _ _ _ _ _
+loop-holds c = listing-start _ _ _ (c .before .before .pre .4)
 
 put-run-requires : tie.Need-put-run-requires Inv-loop μ-loop
-put-run-requires c κs = let s = c .before .before .before .before .before in let l = c .before .before .loop .inv in (record { place = omega (arith, l .most); zone = s .pre .1; cell = omega arith }, s .pre .3, s .pre .4, c .before .loop-test .taken, s .pre .2)
+put-run-requires c κs = let s = c .before .before .before .before .before in let l = c .before .before .loop .inv in (record { place = omega (arith, l .put .most); zone = s .pre .1; cell = omega arith }, s .pre .3, s .pre .4, c .before .loop-test .taken, s .pre .2)
 
 same-length : tie.Need-same-length Inv-loop μ-loop
-same-length c = search needs
+same-length c = search (needs, put-length (c .before .before .before .before .before .before .loop .inv .put))
 
 returns : tie.Need-returns Inv-loop μ-loop
 returns c = listing-broken (c .before .before .before .before .before .before .loop .inv) (c .before .before .before .put-run .ensures) (c .if1 .taken) (c .before .before .before .before .before .loop-test .taken)
@@ -34,10 +35,10 @@ loop-again : tie.Need-loop-again Inv-loop μ-loop
 loop-again c = listing-step (c .before .before .before .before .before .before .loop .inv) (c .before .before .before .put-run .ensures) (c .if1 .left)
 
 same-length-2 : tie.Need-same-length-2 Inv-loop μ-loop
-same-length-2 c = c .before .loop .inv .putting .same-length
+same-length-2 c = put-length (c .before .loop .inv .put)
 
 returns-2 : tie.Need-returns-2 Inv-loop μ-loop
-returns-2 c = let s = c .before .before .before .before in listing-end (c .before .loop .inv) (s .pre .4) (c .loop-test .left)
+returns-2 c = listing-end (c .before .loop .inv) (c .loop-test .left)
 
 pub put-zone-spec : {M : Type 1} → statement M
 put-zone-spec =

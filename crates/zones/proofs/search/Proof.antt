@@ -1,5 +1,5 @@
 -- `zones::search` meets its contract. Assumes nothing.
-use Rattle.rules.specs.Plan.{fitted}
+use Rattle.rules.specs.Plan.{fitted, search as searchFrom}
 use Rattle.layout.specs.Reading.{shapeOf}
 use Rattle.stage.specs.View.{seen}
 use Rattle.stage.specs.Clear.{Clear}
@@ -9,9 +9,10 @@ use mathlib.Core.Logic.{⊎-elim}
 use mathlib.Core.Path.{ap₂, _∙_}
 use borrow.Author.Tests.{not-false, not-true}
 use Rattle.runs.specs.Rest.{Passed, Zoned}
-use Rattle.runs.proofs.Rest.{walk-passed, zoned-seen}
+use Rattle.runs.proofs.Rest.{zoned-seen}
 use Rattle.zones.proofs.Shaped.{zone-inside}
-use Rattle.zones.proofs.Searching.{Inside, Outside, inside-broken, inside-broken-behind, inside-end, inside-hit, inside-pass, inside-start, outside-end, outside-start}
+use Rattle.runs.proofs.Walking.{Walking, walking-broken, walking-end, walking-judged, walking-passed, walking-start, walking-step}
+use Rattle.zones.proofs.Searching.{Outside, cellsFrom, fitOr, inside-end, inside-hit, inside-pass, inside-start, outside-end, outside-start}
 use borrow.Author.Needs.{needs}
 use native.Mathlib.Omega.{arith}
 use Rattle.zones.proofs.search.Statement.{statement}
@@ -19,7 +20,8 @@ use Rattle.zones.proofs.search.Tie as tie
 
 abbrev Inv-loop : tie.InvT-loop
 Inv-loop pool staging count s k zones z c₀ n₀ place cells after₀ next₀ c n after next =
-    Inside (shapeOf s) (seen pool staging count) k z (place .from) (place .cells) c after × Clear staging count (place .from + 64 * c) next × Zoned pool (place .from) (place .cells)
+    Walking (cellsFrom (shapeOf s) (seen pool staging count) k z c) (searchFrom (shapeOf s) (seen pool staging count) k 0 (s .zones)) (seen pool staging count) (place .from) (place .cells) c after
+    × Clear staging count (place .from + 64 * c) next × Zoned pool (place .from) (place .cells)
 
 abbrev μ-loop : tie.MeasureT-loop
 μ-loop pool staging count s k zones z c₀ n₀ place cells after₀ next₀ c n after next = place .cells - c
@@ -38,20 +40,18 @@ zone-requires c κs = (c .before .before .before .before .pre .1 .range, c .sear
 
 loop-holds : tie.Need-loop-holds Inv-loop μ-loop Inv-search μ-search
 loop-holds c =
-    let s = c .before .before .before .before .before in (
-      inside-start (c .before .before .search .inv) (c .before .search-test .taken) (c .zone .ensures),
+    let s = c .before .before .before .before .before in
+    let z = zone-inside (s .args .s) (s .pre .1 .range) (s .pre .1 .size) (c .before .search-test .taken) (c .zone .ensures) in (
+      walking-start (zoned-seen (s .args .staging .now) (s .args .count) z) (inside-start (c .before .before .search .inv) (c .before .search-test .taken) (c .zone .ensures)),
       clear-empty (s .args .staging .now) (s .args .count) (omega arith),
-      zone-inside (s .args .s) (s .pre .1 .range) (s .pre .1 .size) (c .before .search-test .taken) (c .zone .ensures),
+      z,
     )
 
 advance-requires : tie.Need-advance-requires Inv-loop μ-loop Inv-search μ-search
 advance-requires c κs = let l = c .before .loop in (c .before .before .before .before .before .before .before .pre .0, l .inv .2, c .loop-test .taken, l .inv .1)
 
 returns : tie.Need-returns Inv-loop μ-loop Inv-search μ-search
-returns c =
-    let s = c .before .before .before .before .before .before .before .before .before in
-    let l = c .before .before .before .loop in
-    inside-broken (l .inv .0) (zoned-seen (s .args .staging .now) (s .args .count) (l .inv .2)) (c .before .before .loop-test .taken) (c .before .advance .ensures .0) (c .if1 .taken)
+returns c = walking-broken (c .before .before .before .loop .inv .0) (c .before .before .loop-test .taken) (c .before .advance .ensures .0) (c .if1 .taken)
 
 fits-requires : tie.Need-fits-requires Inv-loop μ-loop Inv-search μ-search
 fits-requires c κs = search needs
@@ -61,9 +61,7 @@ passed : (c : tie.Else1 Inv-loop μ-loop Inv-search μ-search)
     → let s = c .before .before .before .before .before .before .before .before .before in
     let l = c .before .before .before .loop in
     Passed (seen (s .args .pool .now) (s .args .staging .now) (s .args .count)) (c .before .before .before .before .zone .result .from) (c .before .before .before .before .zone .result .cells) (l .c) (l .after) (c .before .advance .result .cells) (c .before .advance .result .free)
-passed c =
-    let s = c .before .before .before .before .before .before .before .before .before in
-    walk-passed (zoned-seen (s .args .staging .now) (s .args .count) (c .before .before .before .loop .inv .2)) (c .before .before .loop-test .taken) (c .before .advance .ensures .0) (c .if1 .left)
+passed c = walking-passed (c .before .before .before .loop .inv .0) (c .before .before .loop-test .taken) (c .before .advance .ensures .0) (c .if1 .left)
 
 add-whole-from : tie.Need-add-whole-from Inv-loop μ-loop Inv-search μ-search
 add-whole-from c = omega (arith, passed (c .before .before) .within, c .before .before .before .before .before .loop .inv .2 .inside)
@@ -76,7 +74,8 @@ whole-from-requires c κs =
 returns-2 : tie.Need-returns-2 Inv-loop μ-loop Inv-search μ-search
 returns-2 c =
     let h = c .before .before .before .before in
-    inside-broken-behind (h .before .before .before .loop .inv .0) (passed h) (c .before .whole-from .ensures) (not-true (c .before .whole-from .result) (c .if3 .taken))
+    let i = walking-step (h .before .before .before .loop .inv .0) (passed h) (inside-hit _ _ _ (passed h) (c .before .before .before .fits2 .ensures) (c .before .before .if2 .taken)) in
+    walking-judged (fitOr _ _ _) i (c .before .whole-from .ensures) (not-true (c .before .whole-from .result) (c .if3 .taken))
 
 add-c : tie.Need-add-c Inv-loop μ-loop Inv-search μ-search
 add-c c = omega (arith, passed (c .before .before) .within, c .before .before .before .before .before .loop .inv .2 .inside)
@@ -88,7 +87,7 @@ loop-again : tie.Need-loop-again Inv-loop μ-loop Inv-search μ-search
 loop-again c =
     let h = c .before .before in
     let l = h .before .before .before .loop in
-    (inside-pass (l .inv .0) (passed h) (c .before .fits2 .ensures) (c .if2 .left), clear-later (omega arith) (h .before .advance .ensures .1), l .inv .2)
+    (walking-step (l .inv .0) (passed h) (inside-pass _ _ _ (passed h) (c .before .fits2 .ensures) (c .if2 .left)), clear-later (omega arith) (h .before .advance .ensures .1), l .inv .2)
 
 add-z : tie.Need-add-z Inv-loop μ-loop Inv-search μ-search
 add-z c = search needs
@@ -97,19 +96,16 @@ search-less : tie.Need-search-less Inv-loop μ-loop Inv-search μ-search
 search-less c = search needs
 
 search-again : tie.Need-search-again Inv-loop μ-loop Inv-search μ-search
-search-again c =
-    let s = c .before .before .before .before .before .before .before in
-    let l = c .before .loop in
-    inside-end (l .inv .0) (zoned-seen (s .args .staging .now) (s .args .count) (l .inv .2)) (c .loop-test .left)
+search-again c = inside-end _ _ (walking-end (c .before .loop .inv .0) (c .loop-test .left))
 
 returns-3 : tie.Need-returns-3 Inv-loop μ-loop Inv-search μ-search
 returns-3 c =
-    let s = c .before .before .before .before .before in
     ⊎-elim
     (λ w. let b : ⊥ = omega arith in absurd b)
     (λ w.
-    let p = walk-passed (zoned-seen (s .args .staging .now) (s .args .count) (w .2 .inv .2)) (w .3 .taken) (w .4 .ensures .0) (w .5 .left) in
-    ap₂ (λ (x y : ℕ). fitted (c .before .before .search .z) (record { cell = x; count = y })) (w .10) (w .11) ∙ inside-hit (w .2 .inv .0) p (w .6 .ensures) (w .7 .taken) (w .8 .ensures) (not-false (w .8 .result) (w .9 .left)))
+    let p = walking-passed (w .2 .inv .0) (w .3 .taken) (w .4 .ensures .0) (w .5 .left) in
+    let i = walking-step (w .2 .inv .0) p (inside-hit _ _ _ p (w .6 .ensures) (w .7 .taken)) in
+    ap₂ (λ (x y : ℕ). fitted (c .before .before .search .z) (record { cell = x; count = y })) (w .10) (w .11) ∙ walking-judged (fitOr _ _ _) i (w .8 .ensures) (not-false (w .8 .result) (w .9 .left)))
     (c .before .search-test .came)
 
 returns-4 : tie.Need-returns-4 Inv-loop μ-loop Inv-search μ-search

@@ -48,7 +48,7 @@ fn shape_ok(h: &[u8]) -> bool
 }
 
 // Whether the letters stand at the front.
-fn letters_ok(h: &[u8]) -> bool
+pub fn letters_ok(h: &[u8]) -> bool
     requires { ⌜ length (now h) ≡ pageSize ⌝ }
     ensures { λ r. ⌜ r ≡ same (take 4 (now (h .entry))) letters ⌝ }
 {

@@ -1,17 +1,18 @@
 -- A pool opened, way out by way out; and what a caller knows of an opened pool. Assumes nothing.
 use Prim.Native.Nat.{ℕ, _≤_, _<_}
 use mathlib.Core.Path.{_≡_, refl, sym, ap, _∙_}
-use mathlib.Core.Bool.{Bool, true, false}
+use mathlib.Core.Bool.{Bool, true, false, not}
 use mathlib.Core.Option.{Option, none, some}
 use mathlib.Core.List.{List}
 use native.Mathlib.Omega.{arith}
 use lib.Dec.{eqb}
-use lib.ListN.{length}
+use lib.ListN.{length, take}
 use borrow.Author.Tests.{eq-eqb, eqb-true, le-ltb, lt-ltb, ne-eqb}
 use Rattle.rules.specs.Shape.{Shape as PoolShape, poolSize}
 use Rattle.rules.specs.Test.{first}
-use Rattle.rules.specs.Header.{differing, headerOk, headerShape, inRange, openTests, pageAt, same, shapeIn, validHeader}
+use Rattle.rules.specs.Header.{differing, headerOk, headerShape, inRange, letters, openTests, pageAt, same, shapeIn, validHeader}
 use Rattle.rules.proofs.Bool.{split}
+use Rattle.rules.proofs.Chain.{and-stop}
 use Rattle.rules.proofs.Shape.{Good as GoodShape}
 use Rattle.rules.proofs.Test.{Passed, first-passed, not-not, passed-first}
 use Rattle.rules.proofs.Header.{passed-range, same-eq}
@@ -23,16 +24,14 @@ use Rattle.layout.proofs.Range.{shape-good, size-bounds}
 
 -- ---- by the header page h, a pool of n bytes
 
-pub opened-by-good : (h : List ℕ) (n z : ℕ) (s : Shape) → s ≡ shapeFrom (headerShape h) → z ≡ poolSize (shapeOf s) → n ≡ z
-    → Good s ≡ openedBy h n
-unfolding openedBy answer first headerShape
-opened-by-good h n z s e f g = let k = eq-eqb n (poolSize (shapeOf (shapeFrom (headerShape h)))) (g ∙ f ∙ ap (λ (t : Shape). poolSize (shapeOf t)) e) in rw (e, k)
+module _ (h : List ℕ) (n z : ℕ) (s : Shape) (e : shapeOf s ≡ headerShape h) (f : z ≡ poolSize (shapeOf s)) where
+  pub opened-by-good : n ≡ z → Good s ≡ openedBy h n
+  unfolding openedBy answer first
+  opened-by-good g = rw (← e, eq-eqb n (poolSize (shapeOf s)) (g ∙ f))
 
-pub opened-by-refused : (h : List ℕ) (n z : ℕ) (s : Shape) → s ≡ shapeFrom (headerShape h) → z ≡ poolSize (shapeOf s) → (n ≡ z → ⊥)
-    → Refused 2 ≡ openedBy h n
-unfolding openedBy answer first headerShape
-opened-by-refused h n z s e f g =
-    let k = ne-eqb n (poolSize (shapeOf (shapeFrom (headerShape h)))) (λ q. g (q ∙ sym (f ∙ ap (λ (t : Shape). poolSize (shapeOf t)) e))) in rw k
+  pub opened-by-refused : (n ≡ z → ⊥) → Refused 2 ≡ openedBy h n
+  unfolding openedBy answer first
+  opened-by-refused g = rw (← e, ne-eqb n (poolSize (shapeOf s)) (λ q. g (q ∙ sym f)))
 
 -- ---- a pool
 
@@ -54,6 +53,14 @@ module _ (p : List ℕ) where
     pub open-none : a ≡ false → Refused 3 ≡ opened p
     unfolding opened openTests first answer
     open-none h = rw (le-ltb (length p) 512 l, ← e, ← copy-valid, h)
+
+  -- and the letters of the copy are others
+  pub open-letters : (x : Bool) → 512 ≤ length p → same (pageAt p 0) (pageAt p 256) ≡ true → x ≡ same (take 4 (pageAt p 256)) letters → not x ≡ true
+      → Refused 3 ≡ opened p
+  unfolding validHeader headerOk
+  open-letters x l d e h =
+      let k : false ≡ headerOk (pageAt p 256) = and-stop x _ _ h e in
+      open-none false l d (k ∙ ap headerOk (sym (same-eq (pageAt p 0) (pageAt p 256) d))) refl
 
   -- it does not
   module _ (a b : Bool) (l : 512 ≤ length p) (d : same (pageAt p 0) (pageAt p 256) ≡ false) (e : a ≡ validHeader p 0) (f : b ≡ validHeader p 256) where

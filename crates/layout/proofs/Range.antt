@@ -1,17 +1,20 @@
 -- The code's shape: its length is that of 01 and fits, and a header's shape is in range. Assumes nothing.
 use Prim.Native.Nat.{ℕ, _+_, _*_, _≤_}
-use mathlib.Core.Path.{_≡_, refl}
+use mathlib.Core.Path.{_≡_, refl, sym, ap, _∙_}
 use mathlib.Core.Bool.{Bool, true, false}
 use mathlib.Core.List.{List}
 use native.Mathlib.Nat.{mul-le-mul, mul-le-mul-right}
 use native.Mathlib.Omega.{arith}
-use Rattle.rules.specs.Shape.{poolSize, zoneCells, zoneAt, shape}
+use lib.ListN.{getD}
+use Rattle.rules.specs.Shape.{Shape as PoolShape, poolSize, zoneCells, zoneAt, shape}
 use Rattle.rules.specs.Header.{headerOk, headerShape, inRange}
+use Rattle.rules.proofs.Bool.{split}
 use Rattle.rules.proofs.Shape.{Good, zone-end}
 use Rattle.rules.proofs.Header.{header-range, range-good, range-ranged}
 use Rattle.layout.specs.declared.Shape.{Shape}
+use Rattle.layout.specs.declared.Made.{Made}
 use Rattle.layout.specs.declared.Made.the-variants.{Good as MadeGood, OutOfRange}
-use Rattle.layout.specs.Reading.{InRange, made, shapeFrom, shapeOf}
+use Rattle.layout.specs.Reading.{InRange, checked, good, madeOf, refused, shapeOf}
 
 pub shape-good : (s : Shape) → InRange (shapeOf s) → Good (shapeOf s)
 shape-good s r = range-good (shapeOf s) refl r
@@ -62,17 +65,43 @@ zone-at-le s r z h = let e = zone-end (shapeOf s) (shape-good s r) in let m = mu
 
 -- ---- the constructor
 
-pub made-good : (r : Bool) (R C Z : ℕ) → r ≡ inRange (shape R C Z) → r ≡ true
-    → MadeGood (record { rows = R; cols = C; zones = Z }) ≡ made R C Z
-unfolding made
-made-good r R C Z e h = rw (← e, h)
+module _ (b : Bool) (R C Z : ℕ) (e : b ≡ inRange (shape R C Z)) where
+  pub new-good : b ≡ true → madeOf (MadeGood (record { rows = R; cols = C; zones = Z })) ≡ checked (shape R C Z)
+  unfolding checked
+  new-good h = rw (← e, h)
 
-pub made-bad : (r : Bool) (R C Z : ℕ) → r ≡ inRange (shape R C Z) → r ≡ false → OutOfRange ≡ made R C Z
-unfolding made
-made-bad r R C Z e h = rw (← e, h)
+  pub new-out : b ≡ false → madeOf OutOfRange ≡ checked (shape R C Z)
+  unfolding checked
+  new-out h = rw (← e, h)
+
+-- what its answers say
+module _ (r : Made) (sh : PoolShape) (e : madeOf r ≡ checked sh) where
+  pub made-good : (s : Shape) → r ≡ MadeGood s → (shapeOf s ≡ sh) × InRange (shapeOf s)
+  unfolding checked
+  made-good s h =
+      let k : good (shapeOf s) ≡ checked sh = sym (ap madeOf h) ∙ e in
+      split (inRange sh)
+      (λ t. let q : good (shapeOf s) ≡ good sh = rw t at k in let m : shapeOf s ≡ sh = cc in (m, ap inRange m ∙ t))
+      (λ f. absurd (let q : good (shapeOf s) ≡ refused 1 = rw f at k in let z : _≡_ {A = ℕ} 0 1 = cc in omega arith))
+
+  pub made-out : r ≡ OutOfRange → inRange sh ≡ false
+  unfolding checked
+  made-out h =
+      let k : refused 1 ≡ checked sh = sym (ap madeOf h) ∙ e in
+      split (inRange sh) (λ t. absurd (let q : refused 1 ≡ good sh = rw t at k in let z : _≡_ {A = ℕ} 0 1 = cc in omega arith)) (λ f. f)
 
 -- ---- a header's shape
 
-pub shape-range : (h : List ℕ) (s : Shape) → s ≡ shapeFrom (headerShape h) → headerOk h ≡ true → InRange (shapeOf s)
-unfolding headerShape
-shape-range h s e ok = rw e (header-range h ok)
+module _ (h : List ℕ) (R C Z : ℕ) (r : Made) (e : R ≡ getD h 4 0) (f : C ≡ getD h 5 0) (g : Z ≡ getD h 6 0) (m : madeOf r ≡ checked (shape R C Z)) where
+  header-checked : madeOf r ≡ checked (headerShape h)
+  unfolding headerShape
+  header-checked = m ∙ rw (e, f, g)
+
+  pub header-made : (s : Shape) → r ≡ MadeGood s → (shapeOf s ≡ headerShape h) × InRange (shapeOf s)
+  header-made s q = made-good r (headerShape h) header-checked s q
+
+  -- a valid header's is made
+  pub header-out : headerOk h ≡ true → r ≡ OutOfRange → ⊥
+  header-out ok q =
+      let z : true ≡ false = sym (header-range h ok) ∙ made-out r (headerShape h) header-checked q in
+      let y : _≡_ {A = ℕ} 0 1 = cc in omega arith

@@ -11,7 +11,7 @@ use Rattle.rules.specs.Test.{first, when}
 use Rattle.rules.specs.Header.{headerShape, inRange, openTests, shapeIn}
 use Rattle.layout.specs.declared.Shape.{Shape}
 use Rattle.layout.specs.declared.Made.{Made}
-use Rattle.layout.specs.declared.Made.the-variants as Checked
+use Rattle.layout.specs.declared.Made.the-variants as Making
 use Rattle.layout.specs.declared.Opened.{Opened}
 use Rattle.layout.specs.declared.Opened.the-variants as Opening
 
@@ -31,10 +31,19 @@ pub record Shaped (pool : List ℕ) (s : PoolShape) : Type 0 where
   pub range : inRange s ≡ true
   pub size : length pool ≡ poolSize s
 
--- A shape whose numbers are in range.
-unfoldable pub made : ℕ → ℕ → ℕ → Made
-made R C Z =
-    cond (inRange (shape R C Z)) (Checked.Good (record { rows = R; cols = C; zones = Z })) Checked.OutOfRange
+-- A shape checked: itself, or a refusal's number.
+pub data Checked : Type 0 where
+  good : PoolShape → Checked
+  refused : ℕ → Checked
+
+-- What the constructor's answer means: this paper's number and values for each case.
+abbrev pub madeOf : Made → Checked
+madeOf (Making.Good s) = good (shapeOf s)
+madeOf Making.OutOfRange = refused 1
+
+-- The shape, or refusal 1: R, C or Z outside its range.
+unfoldable pub checked : PoolShape → Checked
+checked s = cond (inRange s) (good s) (refused 1)
 
 -- The shape, unless a refusal is given.
 unfoldable pub answer : Option ℕ → PoolShape → Opened

@@ -3,9 +3,9 @@ ghost use mathlib.Core.Path.{_≡_};
 ghost use mathlib.Core.Bool.{true, false};
 ghost use Prim.Native.Nat.{_*_, _≤_, _<_};
 ghost use lib.ListN.{length};
-ghost use Rattle.rules.specs.Shape.{bodyLimit, entryLimit, pageSize, poolSize, stagingSize, zoneAt, zoneCells};
-ghost use Rattle.rules.specs.Header.{headerOk, headerShape, pageAt, same};
-ghost use Rattle.layout.specs.Reading.{InRange, made, opened, openedBy, shapeFrom, shapeOf};
+ghost use Rattle.rules.specs.Shape.{bodyLimit, entryLimit, pageSize, poolSize, shape, stagingSize, zoneAt, zoneCells};
+ghost use Rattle.rules.specs.Header.{headerOk, pageAt, same};
+ghost use Rattle.layout.specs.Reading.{InRange, checked, madeOf, opened, openedBy, shapeOf};
 
 pub struct Shape {
     pub rows: usize,
@@ -13,7 +13,7 @@ pub struct Shape {
     pub zones: usize,
 }
 
-// A checked shape.
+// A checked shape, or refusal 1.
 pub enum Made {
     Good(Shape),
     OutOfRange,
@@ -35,9 +35,9 @@ impl Shape {
     // Bytes of staging memory, at least.
     pub const STAGING: usize = 2032;
 
-    // The shape with these numbers, if each is in its range. The second clause ties the constants to 01's limits.
+    // The shape with these numbers, or refusal 1: one is not in its range. The second clause ties the constants to 01's limits.
     pub fn new(rows: usize, cols: usize, zones: usize) -> Made
-        ensures { λ r. ⌜ r ≡ made rows cols zones ⌝ }
+        ensures { λ r. ⌜ madeOf r ≡ checked (shape rows cols zones) ⌝ }
         ensures limits { λ r. do ⌜ ((← ⟦Shape::PAGE⟧ .entry) ≡ pageSize) × ((← ⟦Shape::ENTRIES⟧ .entry) ≡ entryLimit) × ((← ⟦Shape::BODY⟧ .entry) ≡ bodyLimit) × ((← ⟦Shape::STAGING⟧ .entry) ≡ stagingSize) ⌝ }
     {
         if header::in_range(rows, cols, zones) {
@@ -71,35 +71,30 @@ impl Shape {
     }
 }
 
-// The shape that a header page tells.
-pub fn header_shape(h: &[u8]) -> Shape
-    requires { ⌜ length (now h) ≡ pageSize ⌝ }
-    ensures { λ r. ⌜ r ≡ shapeFrom (headerShape (now (h .entry))) ⌝ }
-{
-    Shape {
-        rows: header::byte(h, 4),
-        cols: header::byte(h, 5),
-        zones: header::byte(h, 6),
-    }
-}
-
-// The shape that a valid header page tells, or refusal 2: `n` is not its length.
+// The shape that a valid header page tells, or refusal 2: `n` is not its length. A valid header's shape is never out of range.
 fn open_by(h: &[u8], n: usize) -> Opened
     requires { ⌜ (length (now h) ≡ pageSize) × (headerOk (now h) ≡ true) ⌝ }
     ensures { λ r. ⌜ r ≡ openedBy (now (h .entry)) n ⌝ }
 {
-    let s = header_shape(h);
-    if n == s.size() {
-        return Opened::Good(s);
+    match Shape::new(header::byte(h, 4), header::byte(h, 5), header::byte(h, 6)) {
+        Made::OutOfRange => Opened::Refused(3),
+        Made::Good(s) => {
+            if n == s.size() {
+                return Opened::Good(s);
+            }
+            Opened::Refused(2)
+        }
     }
-    Opened::Refused(2)
 }
 
-// A pool whose copy equals its header, so that the letters of both are judged with those of one (01): both are valid or neither, and 4 cannot be.
+// A pool whose copy equals its header: the letters are compared on both (01); the rest is judged once, since both are valid or neither, and 4 cannot be.
 fn open_one(pool: &[u8]) -> Opened
     requires { ⌜ (2 * pageSize ≤ length (now pool)) × (same (pageAt (now pool) 0) (pageAt (now pool) pageSize) ≡ true) ⌝ }
     ensures { λ r. ⌜ r ≡ opened (now (pool .entry)) ⌝ }
 {
+    if !header::letters_ok(&pool[256..512]) {
+        return Opened::Refused(3);
+    }
     if header::valid(&pool[0..256]) {
         return open_by(&pool[0..256], pool.len());
     }

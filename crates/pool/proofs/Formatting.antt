@@ -1,6 +1,6 @@
 -- The ways out of format. Assumes nothing.
 use Prim.Native.Nat.{ℕ, _≤_}
-use mathlib.Core.Path.{_≡_, refl, sym, ap, _∙_}
+use mathlib.Core.Path.{_≡_, refl, sym, _∙_}
 use mathlib.Core.Bool.{Bool, true, false, _||_}
 use mathlib.Core.List.{List}
 use native.Mathlib.Omega.{arith}
@@ -8,63 +8,45 @@ use lib.ListN.{length}
 use borrow.Author.Tests.{eq-eqb, ne-eqb, le-ltb}
 use Rattle.rules.specs.Shape.{poolSize, shape}
 use Rattle.rules.specs.Test.{first}
-use Rattle.rules.specs.Header.{inRange}
 use Rattle.rules.specs.Answer.{concludePool}
 use Rattle.rules.specs.Format.{formatTests, formatted, freshPool}
-use Rattle.rules.proofs.Bool.{split}
 use Rattle.rules.proofs.Header.{range-ranged}
 use Rattle.layout.specs.declared.Shape.{Shape}
-use Rattle.layout.specs.declared.Made.the-variants as Checked
-use Rattle.layout.specs.Reading.{InRange, made, shapeOf}
-use Rattle.layout.proofs.Range.{size-bounds}
+use Rattle.layout.specs.declared.Made.{Made}
+use Rattle.layout.specs.declared.Made.the-variants as Making
+use Rattle.layout.specs.Reading.{InRange, checked, madeOf, shapeOf}
+use Rattle.layout.proofs.Range.{made-good, made-out, size-bounds}
 use Rattle.pages.specs.Written.{HeaderFits}
 use Rattle.pool.specs.declared.Outcome.the-variants.{Done, Refused}
 use Rattle.pool.specs.Reading.{changed}
-
--- what the constructor's answers say
-made-out : (R C Z : ℕ) → made R C Z ≡ Checked.OutOfRange → inRange (shape R C Z) ≡ false
-unfolding made
-made-out R C Z e =
-    split (inRange (shape R C Z))
-    (λ t. absurd (let e′ : Checked.Good (record { rows = R; cols = C; zones = Z }) ≡ Checked.OutOfRange = rw t at e in let z : _≡_ {A = ℕ} 0 1 = cc in omega arith))
-    (λ f. f)
-
-pub made-in : (R C Z : ℕ) (s : Shape) → made R C Z ≡ Checked.Good s → (shapeOf s ≡ shape R C Z) × InRange (shapeOf s)
-unfolding made
-made-in R C Z s e =
-    split (inRange (shape R C Z))
-    (λ t.
-    let e′ : Checked.Good (record { rows = R; cols = C; zones = Z }) ≡ Checked.Good s = rw t at e in
-    let q : _≡_ {A = Shape} (record { rows = R; cols = C; zones = Z }) s = cc in
-    (sym (ap shapeOf q), rw (← q) t))
-    (λ f. absurd (let e′ : Checked.OutOfRange ≡ Checked.Good s = rw f at e in let z : _≡_ {A = ℕ} 0 1 = cc in omega arith))
 
 or-true : (b : Bool) → (b || true) ≡ true
 or-true true = refl
 or-true false = refl
 
 module _ (p : List ℕ) (R C Z id : ℕ) where
-  pub format-range : made R C Z ≡ Checked.OutOfRange → changed (Refused 1) p ≡ formatted p R C Z id
+  pub format-id : id ≡ 0 → changed (Refused 1) p ≡ formatted p R C Z id
   unfolding formatted formatTests first concludePool
-  format-range e = rw (made-out R C Z e)
+  format-id i = rw (eq-eqb id 0 i, or-true)
 
-  pub format-id : (s : Shape) → made R C Z ≡ Checked.Good s → id ≡ 0 → changed (Refused 1) p ≡ formatted p R C Z id
-  unfolding formatted formatTests first concludePool
-  format-id s e i = rw (eq-eqb id 0 i, or-true)
+  module _ (r : Made) (e : madeOf r ≡ checked (shape R C Z)) where
+    pub format-range : r ≡ Making.OutOfRange → changed (Refused 1) p ≡ formatted p R C Z id
+    unfolding formatted formatTests first concludePool
+    format-range h = rw (made-out r (shape R C Z) e h)
 
-  pub format-length : (s : Shape) (n : ℕ) → made R C Z ≡ Checked.Good s → (id ≡ 0 → ⊥) → n ≡ poolSize (shapeOf s) → (length p ≡ n → ⊥) → changed (Refused 2) p ≡ formatted p R C Z id
-  unfolding formatted formatTests first concludePool
-  format-length s n e i q l =
-      let m = made-in R C Z s e in
-      rw (← (m .0), m .1, ne-eqb id 0 i, ne-eqb (length p) (poolSize (shapeOf s)) (λ h. l (h ∙ sym q)), or-true)
+    module _ (s : Shape) (h : r ≡ Making.Good s) (n : ℕ) (i : id ≡ 0 → ⊥) (k : n ≡ poolSize (shapeOf s)) where
+      pub format-length : (length p ≡ n → ⊥) → changed (Refused 2) p ≡ formatted p R C Z id
+      unfolding formatted formatTests first concludePool
+      format-length l =
+          let m = made-good r (shape R C Z) e s h in
+          rw (← (m .0), m .1, ne-eqb id 0 i, ne-eqb (length p) (poolSize (shapeOf s)) (λ q. l (q ∙ sym k)), or-true)
 
-  pub format-done : (s : Shape) (n : ℕ) (q : List ℕ) → made R C Z ≡ Checked.Good s → (id ≡ 0 → ⊥) → n ≡ poolSize (shapeOf s) → length p ≡ n → q ≡ freshPool (shapeOf s) id
-      → changed Done q ≡ formatted p R C Z id
-  unfolding formatted formatTests first concludePool
-  format-done s n q e i k l f =
-      let m = made-in R C Z s e in
-      let b = size-bounds s (m .1) in
-      rw (← (m .0), m .1, ne-eqb id 0 i, eq-eqb (length p) (poolSize (shapeOf s)) (l ∙ k), le-ltb (length p) 512 (omega (arith, l, k, b)), f)
+      pub format-done : (q : List ℕ) → length p ≡ n → q ≡ freshPool (shapeOf s) id → changed Done q ≡ formatted p R C Z id
+      unfolding formatted formatTests first concludePool
+      format-done q l f =
+          let m = made-good r (shape R C Z) e s h in
+          let b = size-bounds s (m .1) in
+          rw (← (m .0), m .1, ne-eqb id 0 i, eq-eqb (length p) (poolSize (shapeOf s)) (l ∙ k), le-ltb (length p) 512 (omega (arith, l, k, b)), f)
 
 -- a header page fits in both places
 pub header-fits : (s : Shape) → InRange (shapeOf s) → (l a : ℕ) → l ≡ poolSize (shapeOf s) → a ≤ 256 → HeaderFits l a (s .rows) (s .cols) (s .zones)

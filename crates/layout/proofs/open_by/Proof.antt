@@ -1,21 +1,62 @@
 -- `layout::open_by` meets its contract. Assumes nothing.
-use Rattle.layout.proofs.Range.{shape-range}
+use mathlib.Core.Path.{_≡_}
+use Rattle.rules.specs.Header.{headerShape}
+use Rattle.layout.specs.Reading.{InRange, shapeOf}
+use Rattle.layout.proofs.Range.{header-made, header-out}
 use Rattle.layout.proofs.Opening.{opened-by-refused, opened-by-good}
 use borrow.Author.Needs.{needs}
 use Rattle.layout.proofs.open_by.Statement.{statement}
 use Rattle.layout.proofs.open_by.Tie as tie
 
-header-shape-requires : tie.Need-header-shape-requires
-header-shape-requires c κs = search needs
+byte-requires : tie.Need-byte-requires
+byte-requires c κs = search needs
+
+byte-requires-2 : tie.Need-byte-requires-2
+byte-requires-2 c κs = search needs
+
+byte-requires-3 : tie.Need-byte-requires-3
+byte-requires-3 c κs = search needs
+
+new-requires : tie.Need-new-requires
+new-requires c κs = search needs
+
+enum-told : tie.Need-enum-told
+enum-told c = search needs
+
+enum-known-s : tie.Need-enum-known-s
+enum-known-s c = search needs
+
+-- the shape made is the header's
+of-header : (c : tie.After-known-told) → (shapeOf (c .before .s .given .0 .0) ≡ headerShape (c .before .before .before .before .before .before .before .before .args .h .now)) × InRange (shapeOf (c .before .s .given .0 .0))
+of-header c =
+    let b = c .before .before .before .before in
+    header-made _ _ _ _ (c .before .before .before .new .result) (b .before .before .byte .ensures .0) (b .before .byte2 .ensures .0) (b .byte3 .ensures .0) (c .before .before .before .new .ensures .0) _ (c .before .s .given .1)
 
 size-requires : tie.Need-size-requires
-size-requires c κs = shape-range _ _ (c .header-shape .ensures) (c .before .before .pre .1)
+size-requires c κs = of-header c .1
 
 returns : tie.Need-returns
-returns c = opened-by-good _ _ _ _ (c .before .before .header-shape .ensures) (c .before .size .ensures) (c .if1 .taken)
+returns c = opened-by-good _ _ _ _ (of-header (c .before .before) .0) (c .before .size .ensures) (c .if1 .taken)
 
 returns-2 : tie.Need-returns-2
-returns-2 c = opened-by-refused _ _ _ _ (c .before .before .header-shape .ensures) (c .before .size .ensures) (c .if1 .left)
+returns-2 c =
+    let b = c .before .before .before in
+    absurd (header-out _ _ _ _ (c .before .before .new .result) (b .before .before .byte .ensures .0) (b .before .byte2 .ensures .0) (b .byte3 .ensures .0) (c .before .before .new .ensures .0) (b .before .before .before .before .pre .1) (c .enum-told .given .1))
+
+returns-3 : tie.Need-returns-3
+returns-3 c = opened-by-refused _ _ _ _ (of-header (c .before .before) .0) (c .before .size .ensures) (c .if1 .left)
 
 pub open-by-spec : {M : Type 1} → statement M
-open-by-spec = tie.close (tie.spec header-shape-requires size-requires returns returns-2)
+open-by-spec =
+    tie.close
+    (tie.spec
+    byte-requires
+    byte-requires-2
+    byte-requires-3
+    new-requires
+    enum-told
+    enum-known-s
+    size-requires
+    returns
+    returns-2
+    returns-3)

@@ -1,6 +1,7 @@
 -- `pool::format` meets its contract. Assumes nothing.
-use mathlib.Core.Path.{sym, _∙_}
-use Rattle.pool.proofs.Formatting.{format-done, format-id, format-length, format-range, made-in}
+use mathlib.Core.Path.{_∙_}
+use Rattle.layout.proofs.Range.{made-good}
+use Rattle.pool.proofs.Formatting.{format-done, format-id, format-length, format-range}
 use borrow.Author.Needs.{needs}
 use Rattle.pool.proofs.format.Statement.{statement}
 use Rattle.pool.proofs.format.Tie as tie
@@ -15,25 +16,25 @@ enum-known-s : tie.Need-enum-known-s
 enum-known-s c = search needs
 
 returns : tie.Need-returns
-returns c = format-id _ _ _ _ _ _ (sym (c .before .before .before .before .new .ensures .0) ∙ c .before .before .s .given .1) (c .if1 .taken)
+returns c = format-id _ _ _ _ _ (c .if1 .taken)
 
 size-requires : tie.Need-size-requires
-size-requires c κs = made-in _ _ _ _ (sym (c .before .before .before .before .new .ensures .0) ∙ c .before .before .s .given .1) .1
+size-requires c κs = let n = c .before .before .before .before .new in made-good (n .result) _ (n .ensures .0) _ (c .before .before .s .given .1) .1
 
 returns-2 : tie.Need-returns-2
-returns-2 c = format-length _ _ _ _ _ _ _ (sym (c .before .before .before .before .before .before .new .ensures .0) ∙ c .before .before .before .before .s .given .1) (c .before .before .if1 .left) (c .before .size .ensures) (c .if2 .taken)
+returns-2 c = let n = c .before .before .before .before .before .before .new in format-length _ _ _ _ _ (n .result) (n .ensures .0) _ (c .before .before .before .before .s .given .1) _ (c .before .before .if1 .left) (c .before .size .ensures) (c .if2 .taken)
 
 fill-requires : tie.Need-fill-requires
-fill-requires c κs = let n = c .before .before .size .ensures in (made-in _ _ _ _ (sym (c .before .before .before .before .before .before .before .new .ensures .0) ∙ c .before .before .before .before .before .s .given .1) .1, c .before .if2 .left ∙ n)
+fill-requires c κs = let n = c .before .before .before .before .before .before .before .new in (made-good (n .result) _ (n .ensures .0) _ (c .before .before .before .before .before .s .given .1) .1, c .before .if2 .left ∙ c .before .before .size .ensures)
 
 returns-3 : tie.Need-returns-3
-returns-3 c = format-range _ _ _ _ _ (sym (c .before .before .new .ensures .0) ∙ c .enum-told .given .1)
+returns-3 c = let n = c .before .before .new in format-range _ _ _ _ _ (n .result) (n .ensures .0) (c .enum-told .given .1)
 
 same-length : tie.Need-same-length
 same-length c = search needs
 
 returns-4 : tie.Need-returns-4
-returns-4 c = format-done _ _ _ _ _ _ _ _ (sym (c .before .before .before .before .before .before .before .before .before .before .new .ensures .0) ∙ c .before .before .before .before .before .before .before .before .s .given .1) (c .before .before .before .before .before .before .if1 .left) (c .before .before .before .before .before .size .ensures) (c .before .before .before .before .if2 .left) (c .before .before .fill .ensures)
+returns-4 c = let n = c .before .before .before .before .before .before .before .before .before .before .new in format-done _ _ _ _ _ (n .result) (n .ensures .0) _ (c .before .before .before .before .before .before .before .before .s .given .1) _ (c .before .before .before .before .before .before .if1 .left) (c .before .before .before .before .before .size .ensures) _ (c .before .before .before .before .if2 .left) (c .before .before .fill .ensures)
 
 pub format-spec : {M : Type 1} → statement M
 format-spec =

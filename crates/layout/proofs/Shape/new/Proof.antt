@@ -1,5 +1,5 @@
 -- `layout::Shape::new` meets its contract. Assumes nothing.
-use Rattle.layout.proofs.Range.{made-bad, made-good}
+use Rattle.layout.proofs.Range.{new-good, new-out}
 use borrow.Author.Needs.{needs}
 use Rattle.layout.proofs.Shape.new.Statement.{statement}
 use Rattle.layout.proofs.Shape.new.Tie as tie
@@ -8,10 +8,10 @@ in-range-requires : tie.Need-in-range-requires
 in-range-requires c κs = search needs
 
 returns : tie.Need-returns
-returns c = (made-good _ _ _ _ (c .before .in-range .ensures) (c .if1 .taken), search needs)
+returns c = (new-good _ _ _ _ (c .before .in-range .ensures) (c .if1 .taken), search needs)
 
 returns-2 : tie.Need-returns-2
-returns-2 c = (made-bad _ _ _ _ (c .before .in-range .ensures) (c .if1 .left), search needs)
+returns-2 c = (new-out _ _ _ _ (c .before .in-range .ensures) (c .if1 .left), search needs)
 
 pub new-spec : {M : Type 1} → statement M
 new-spec = tie.close (tie.spec in-range-requires returns returns-2)

@@ -6,7 +6,7 @@ ghost use lib.ListN.{length};
 ghost use Rattle.rules.specs.Shape.{pageSize, poolSize};
 ghost use Rattle.rules.specs.Format.{formatted, freshPool};
 ghost use Rattle.rules.specs.Mend.{mended, mendHeader};
-ghost use Rattle.rules.specs.Repair.{repair as repaired};
+ghost use Rattle.rules.specs.Repair.{repair as repairCall};
 ghost use Rattle.rules.specs.Look.{look as looked, part, seen};
 ghost use Rattle.rules.specs.Scrub.{scrub as scrubbed};
 ghost use Rattle.layout.specs.Reading.{InRange, shapeOf};
@@ -105,7 +105,7 @@ fn copy_header(pool: &mut [u8])
 
 // Rebuilds the lost pages: `lost` has one mask a column, zone by zone; bit r means row r, bit R the parity row.
 pub fn repair(pool: &mut [u8], lost: &[u16]) -> Outcome
-    ensures { λ r. ⌜ changed r (now (pool .exit)) ≡ repaired (now (pool .entry)) (now (lost .entry)) ⌝ }
+    ensures { λ r. ⌜ changed r (now (pool .exit)) ≡ repairCall (now (pool .entry)) (now (lost .entry)) ⌝ }
 {
     match opening::quiet(pool) {
         Opened::Refused(n) => Outcome::Refused(n),

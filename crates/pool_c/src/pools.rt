@@ -4,7 +4,7 @@ ghost use Rattle.rules.specs.Check.{check as checkOf};
 ghost use Rattle.rules.specs.Format.{formatted};
 ghost use Rattle.rules.specs.Look.{look as looked};
 ghost use Rattle.rules.specs.Mend.{mendHeader};
-ghost use Rattle.rules.specs.Repair.{repair as repaired};
+ghost use Rattle.rules.specs.Repair.{repair as repairCall};
 ghost use Rattle.rules.specs.Scrub.{scrub as scrubbed};
 ghost use Rattle.pool.specs.Reading.{answerOf};
 ghost use Rattle.pool_c.specs.Reading.{changedOut, countsOut, partOut, valueOut};
@@ -65,7 +65,7 @@ pub extern "C" fn pool_mend(pool: &mut [u8]) -> usize
 // Rebuilds the lost pages.
 #[no_mangle]
 pub extern "C" fn pool_repair(pool: &mut [u8], lost: &[u16]) -> usize
-    ensures { λ r. ⌜ (r, now (pool .exit)) ≡ changedOut (repaired (now (pool .entry)) (now (lost .entry))) ⌝ }
+    ensures { λ r. ⌜ (r, now (pool .exit)) ≡ changedOut (repairCall (now (pool .entry)) (now (lost .entry))) ⌝ }
 {
     refusal(pool::repair(pool, lost))
 }

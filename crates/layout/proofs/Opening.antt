@@ -8,7 +8,7 @@ use native.Mathlib.Omega.{arith}
 use lib.Dec.{eqb}
 use lib.ListN.{length, take}
 use borrow.Author.Tests.{eq-eqb, eqb-true, le-ltb, lt-ltb, ne-eqb}
-use Rattle.rules.specs.Shape.{Shape as PoolShape, poolSize}
+use Rattle.rules.specs.Shape.{Shape as PoolShape, pageSize, poolSize, zonesAt}
 use Rattle.rules.specs.Test.{first}
 use Rattle.rules.specs.Header.{differing, headerOk, headerShape, inRange, letters, openTests, pageAt, same, shapeIn, validHeader}
 use Rattle.rules.proofs.Bool.{split}
@@ -113,6 +113,10 @@ module _ (p : List ℕ) where
   unfolding opened answer
   refused-open n e = rw e
 
+  page-in : shapeIn p .page ≡ pageSize
+  unfolding shapeIn headerShape
+  page-in = refl
+
   shape-whole : shapeOf (shapeFrom (shapeIn p)) ≡ shapeIn p
   unfolding shapeIn headerShape
   shape-whole = refl
@@ -123,7 +127,7 @@ module _ (p : List ℕ) where
   open-good s e =
       let o = open-passed s e in
       let k : shapeOf s ≡ shapeIn p = ap shapeOf (sym (answer-good (first (openTests p)) (shapeIn p) s e .1)) ∙ shape-whole in
-      (passed-length p o ∙ ap poolSize (sym k), ap inRange k ∙ passed-range p o, k)
+      (passed-length p o ∙ ap poolSize (sym k), record { ranged = ap inRange k ∙ passed-range p o; paged = ap (λ (x : PoolShape). x .page) k ∙ page-in }, k)
 
   pub open-shape : (s : Shape) → opened p ≡ Good s → GoodShape (shapeOf s)
   open-shape s e = shape-good s (open-good s e .1)
@@ -132,5 +136,5 @@ module _ (p : List ℕ) where
   open-shaped s e = let g = open-good s e in record { range = g .1; size = g .0 }
 
   -- it has room for the header pages and both logs
-  pub shaped-room : (s : Shape) → Shaped p (shapeOf s) → 4608 ≤ length p
+  pub shaped-room : (s : Shape) → Shaped p (shapeOf s) → zonesAt (shapeOf s) ≤ length p
   shaped-room s h = let b = size-bounds s (h .range) in omega (arith, h .size, b)

@@ -6,7 +6,7 @@ use mathlib.Core.Option.{Option, none, some}
 use mathlib.Core.List.{List, [], _∷_}
 use lib.Dec.{eqb}
 use lib.ListN.{length}
-use Rattle.rules.specs.Shape.{Shape as PoolShape, poolSize, shape}
+use Rattle.rules.specs.Shape.{Shape as PoolShape, pageSize, poolSize}
 use Rattle.rules.specs.Test.{first, when}
 use Rattle.rules.specs.Header.{headerShape, inRange, openTests, shapeIn}
 use Rattle.layout.specs.declared.Shape.{Shape}
@@ -15,20 +15,21 @@ use Rattle.layout.specs.declared.Made.the-variants as Making
 use Rattle.layout.specs.declared.Opened.{Opened}
 use Rattle.layout.specs.declared.Opened.the-variants as Opening
 
--- The code's shape has pages of 256 bytes.
+-- The code's shape is that of 01, field by field.
 abbrev pub shapeOf : Shape → PoolShape
-shapeOf s = shape (s .rows) (s .cols) (s .zones)
+shapeOf s = record { page = s .page; rows = s .rows; cols = s .cols; zones = s .zones }
 
 abbrev pub shapeFrom : PoolShape → Shape
-shapeFrom s = record { rows = s .rows; cols = s .cols; zones = s .zones }
+shapeFrom s = record { page = s .page; rows = s .rows; cols = s .cols; zones = s .zones }
 
--- R, C and Z are in range.
-abbrev pub InRange : PoolShape → Type 0
-InRange s = inRange s ≡ true
+-- R, C and Z are in range, and the page is that of a version 1 header.
+pub record InRange (s : PoolShape) : Type 0 where
+  pub ranged : inRange s ≡ true
+  pub paged : s .page ≡ pageSize
 
 -- A pool of the shape s.
 pub record Shaped (pool : List ℕ) (s : PoolShape) : Type 0 where
-  pub range : inRange s ≡ true
+  pub range : InRange s
   pub size : length pool ≡ poolSize s
 
 -- A shape checked: itself, or a refusal's number.

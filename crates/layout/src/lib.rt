@@ -3,11 +3,13 @@ ghost use mathlib.Core.Path.{_≡_};
 ghost use mathlib.Core.Bool.{true, false};
 ghost use Prim.Native.Nat.{_*_, _≤_, _<_};
 ghost use lib.ListN.{length};
-ghost use Rattle.rules.specs.Shape.{bodyLimit, entryLimit, pageSize, poolSize, shape, stagingSize, zoneAt, zoneCells};
+ghost use Rattle.rules.specs.Shape.{InZones, bodyLimit, byteAt, entryLimit, logA, logB, pageSize, poolSize, rowAt, rowSize, shape, stagingSize, zoneAt, zoneCells, zoneSize, zonesAt};
 ghost use Rattle.rules.specs.Header.{headerOk, pageAt, same};
 ghost use Rattle.layout.specs.Reading.{InRange, checked, madeOf, opened, openedBy, shapeOf};
 
+// Bytes of a page, data rows of a zone, pages of a row, zones.
 pub struct Shape {
+    pub page: usize,
     pub rows: usize,
     pub cols: usize,
     pub zones: usize,
@@ -41,7 +43,12 @@ impl Shape {
         ensures limits { λ r. do ⌜ ((← ⟦Shape::PAGE⟧ .entry) ≡ pageSize) × ((← ⟦Shape::ENTRIES⟧ .entry) ≡ entryLimit) × ((← ⟦Shape::BODY⟧ .entry) ≡ bodyLimit) × ((← ⟦Shape::STAGING⟧ .entry) ≡ stagingSize) ⌝ }
     {
         if header::in_range(rows, cols, zones) {
-            return Made::Good(Shape { rows, cols, zones });
+            return Made::Good(Shape {
+                page: Shape::PAGE,
+                rows,
+                cols,
+                zones,
+            });
         }
         Made::OutOfRange
     }
@@ -51,7 +58,47 @@ impl Shape {
         requires { ⌜ InRange (shapeOf self) ⌝ }
         ensures { λ r. ⌜ r ≡ poolSize (shapeOf self) ⌝ }
     {
-        (18 + self.zones * (self.rows + 1) * self.cols) * Shape::PAGE
+        (18 + self.zones * (self.rows + 1) * self.cols) * self.page
+    }
+
+    // Where log A begins.
+    pub fn log_a(self) -> usize
+        requires { ⌜ InRange (shapeOf self) ⌝ }
+        ensures { λ r. ⌜ r ≡ logA (shapeOf self) ⌝ }
+    {
+        2 * self.page
+    }
+
+    // Where log B begins.
+    pub fn log_b(self) -> usize
+        requires { ⌜ InRange (shapeOf self) ⌝ }
+        ensures { λ r. ⌜ r ≡ logB (shapeOf self) ⌝ }
+    {
+        10 * self.page
+    }
+
+    // Where the zones begin.
+    pub fn zones_at(self) -> usize
+        requires { ⌜ InRange (shapeOf self) ⌝ }
+        ensures { λ r. ⌜ r ≡ zonesAt (shapeOf self) ⌝ }
+    {
+        18 * self.page
+    }
+
+    // Bytes of a row.
+    pub fn row_size(self) -> usize
+        requires { ⌜ InRange (shapeOf self) ⌝ }
+        ensures { λ r. ⌜ r ≡ rowSize (shapeOf self) ⌝ }
+    {
+        self.cols * self.page
+    }
+
+    // Bytes of a zone.
+    pub fn zone_size(self) -> usize
+        requires { ⌜ InRange (shapeOf self) ⌝ }
+        ensures { λ r. ⌜ r ≡ zoneSize (shapeOf self) ⌝ }
+    {
+        (self.rows + 1) * (self.cols * self.page)
     }
 
     // The cells of a zone.
@@ -59,7 +106,7 @@ impl Shape {
         requires { ⌜ InRange (shapeOf self) ⌝ }
         ensures { λ r. ⌜ (r ≡ zoneCells (shapeOf self)) × (r < 65536) ⌝ }
     {
-        self.rows * self.cols * 4
+        self.rows * self.cols * (self.page / 64)
     }
 
     // Where zone `z` begins.
@@ -67,7 +114,33 @@ impl Shape {
         requires { ⌜ InRange (shapeOf self) × (z ≤ self .zones) ⌝ }
         ensures { λ r. ⌜ (r ≡ zoneAt (shapeOf self) z) × (r ≤ poolSize (shapeOf self)) ⌝ }
     {
-        18 * Shape::PAGE + z * ((self.rows + 1) * (self.cols * Shape::PAGE))
+        18 * self.page + z * ((self.rows + 1) * (self.cols * self.page))
+    }
+
+    // The place of byte `o` of row `r` of zone `z`.
+    pub fn byte_at(self, z: usize, r: usize, o: usize) -> usize
+        requires { ⌜ InRange (shapeOf self) × (z < self .zones) × (r ≤ self .rows) × (o < rowSize (shapeOf self)) ⌝ }
+        ensures { λ a. ⌜ a ≡ byteAt (shapeOf self) z r o ⌝ }
+    {
+        18 * self.page + ((z * (self.rows + 1) + r) * (self.cols * self.page) + o)
+    }
+
+    // The place of column `c` of zone `z` in the first row.
+    pub fn column_at(self, z: usize, c: usize) -> usize
+        requires { ⌜ InRange (shapeOf self) × (z < self .zones) × (c < self .cols) ⌝ }
+        ensures { λ a. ⌜ a ≡ byteAt (shapeOf self) z 0 (c * self .page) ⌝ }
+    {
+        self.byte_at(z, 0, c * self.page)
+    }
+
+    // The place in row `r` of the column of the place `t`.
+    pub fn row_at(self, t: usize, r: usize) -> usize
+        requires { ⌜ InRange (shapeOf self) × InZones (shapeOf self) t × (r ≤ self .rows) ⌝ }
+        ensures { λ a. ⌜ a ≡ rowAt (shapeOf self) t r ⌝ }
+    {
+        let row = self.row_size();
+        let o = t - self.zones_at();
+        self.byte_at(o / row / (self.rows + 1), r, o % row)
     }
 }
 

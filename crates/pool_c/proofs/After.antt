@@ -35,7 +35,7 @@ module _ (f : Given → After) (t : Transaction) (d : Public.Transaction) (x : P
   left : afterOf x q st′ ≡ f (givenIn t p st)
   left = h ∙ ap (λ (z : Staging.Transaction). f (record { pool = p; staging = st; txn = z })) e
 
-  pub after-fits : Keeps f → Fits64 (t .phase) → Fits64 (phaseOut (phaseOf (x .transaction .phase)))
+  pub after-fits : Keeps f → Fits64 (t .phase) → Fits64 (phaseOut (phaseOf (x .transaction .txn .phase)))
   after-fits k l =
       let i : Fits64 (phaseOut (phaseIn (t .phase))) = rw phase-out-in l in
       subst (λ (z : After). Fits64 (phaseOut (z .left .txn .phase))) (sym left) (k (givenIn t p st) i)

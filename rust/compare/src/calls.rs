@@ -10,6 +10,18 @@ pub struct Given {
     pub recovery: Recovery,
 }
 
+impl Given {
+    /// With a fresh transaction.
+    pub fn begun(pool: Vec<u8>, staging: Vec<u8>, recovery: Recovery) -> Given {
+        let transaction = linked::begin();
+        Given { pool, staging, transaction, recovery }
+    }
+
+    pub fn begin(&mut self) {
+        self.transaction = linked::begin();
+    }
+}
+
 #[derive(Clone, Debug)]
 pub enum Call {
     Format { rows: usize, cols: usize, zones: usize, id: u64 },

@@ -75,7 +75,7 @@ impl Comparison {
         let pool = pools::filled(&mut self.random, shape);
         let staging = self.random.bytes(2032);
         let recovery = requests::recovery(&mut self.random, &pool);
-        let mut given = Given { pool, staging, transaction: linked::begin(), recovery };
+        let mut given = Given::begun(pool, staging, recovery);
         for _ in 0..self.random.from_to(1, 10) {
             let call = requests::staging_call(&mut self.random, shape, &given);
             self.make(&call, &mut given);
@@ -93,7 +93,7 @@ impl Comparison {
     fn disturb(&mut self, shape: Shape, given: &mut Given) {
         let random = &mut self.random;
         match random.below(24) {
-            0 | 1 => given.transaction = linked::begin(),
+            0 | 1 => given.begin(),
             2 if given.pool.len() >= shape.length() => {
                 (given.staging, given.transaction) = requests::staged(random, shape, &given.pool);
             }
@@ -159,8 +159,7 @@ fn calls_on_the_largest_pools() {
 #[test]
 fn check_of_random_bytes() {
     let mut comparison = Comparison::new(3);
-    let mut given =
-        Given { pool: Vec::new(), staging: Vec::new(), transaction: linked::begin(), recovery: linked::Recovery { work: 0, phase: 0 } };
+    let mut given = Given::begun(Vec::new(), Vec::new(), linked::Recovery { work: 0, phase: 0 });
     for length in (0..600).chain([5551, 5552, 5553, 65520, 65521, 65522, 1 << 20]) {
         let bytes = comparison.random.bytes(length);
         comparison.make(&Call::Check(bytes), &mut given);

@@ -10,14 +10,15 @@ use Rattle.rules.specs.Words.{Bytes}
 use Rattle.rules.specs.Test.{Test, first}
 use Rattle.rules.specs.Header.{shapeIn}
 use Rattle.rules.specs.Staging.{isLive, live}
-use Rattle.rules.specs.Answer.{After, Given, conclude, refused}
+use Rattle.rules.specs.Answer.{After, Given, conclude}
 use Rattle.rules.specs.Plan.{Call, Plan, plan}
 use Rattle.rules.specs.Calls.{call, callTests, entriesIn, liveTests, recordTests, staged}
 use Rattle.rules.proofs.Test.{Passed, first-left, first-passed, first-right, not-not, passed-first, passed-left, passed-right}
 use Rattle.powercut.specs.Commit.{commitStart, commitStep, commitTests, startAnswer, startPhase}
 use Rattle.layout.specs.declared.Shape.{Shape}
+use Rattle.layout.specs.declared.Opened.{Opened}
 use Rattle.layout.specs.declared.Opened.the-variants as Opening
-use Rattle.layout.specs.Reading.{answer, shapeOf}
+use Rattle.layout.specs.Reading.{answer, shapeFrom, shapeOf}
 use Rattle.layout.proofs.Opening.{answer-good, answer-refused}
 use Rattle.stage.specs.View.{entriesOf, seen}
 use Rattle.answers.specs.declared.Staged.{Staged}
@@ -34,16 +35,6 @@ use Rattle.transaction.specs.Reading.{afterOf, refusedBack, stagedBack, 
 -- A call that leaves y meets the tests ts first, then us; it leaves x where all pass.
 pub record Meets (g : Given) (ts us : List Test) (x y : After) : Type 0 where
   pub concluded : y ≡ conclude g (first (ts ++ us)) x
-
--- ---- the two ways out: refused by the first tests, or done by the part below
-
-module _ {g : Given} {ts us : List Test} {x y : After} (m : Meets g ts us x y) where
-  pub refused-first : {i : ℕ} → answer (first ts) (shapeIn (g .pool)) ≡ Opening.Refused i → record { answer = refused i; left = g } ≡ y
-  unfolding conclude
-  refused-first {i} e = rw (m .concluded, first-left ts us i (answer-refused (first ts) (shapeIn (g .pool)) i e))
-
-  pub done-below : {s : Shape} {z : After} → answer (first ts) (shapeIn (g .pool)) ≡ Opening.Good s → z ≡ conclude g (first us) x → z ≡ y
-  done-below {s} e q = q ∙ rw (m .concluded, first-right ts us (first-passed ts (answer-good (first ts) (shapeIn (g .pool)) s e .0)))
 
 -- ---- what each call meets
 
@@ -71,14 +62,16 @@ module _ (g : Given) where
 
   -- ---- a record that passed, and is open
 
-  module _ {s : Shape} (e : answer (first front) (shapeIn (g .pool)) ≡ Opening.Good s) where
+  module _ {o : Opened} {s : Shape} (f : o ≡ answer (first front) (shapeIn (g .pool))) (d : o ≡ Opening.Good s) where
+    front-good : (first front ≡ none) × (shapeFrom (shapeIn (g .pool)) ≡ s)
+    front-good = answer-good (first front) (shapeIn (g .pool)) s (sym f ∙ d)
+
     passed : Passed front
-    passed = first-passed front (answer-good (first front) (shapeIn (g .pool)) s e .0)
+    passed = first-passed front (front-good .0)
 
     recorded : answer (first (recordTests g)) (shapeIn (g .pool)) ≡ Opening.Good s
     unfolding answer
-    recorded =
-        rw (passed-first (recordTests g) (passed-left (recordTests g) (liveTests g) passed)) (ap Opening.Good (answer-good (first front) (shapeIn (g .pool)) s e .1))
+    recorded = rw (passed-first (recordTests g) (passed-left (recordTests g) (liveTests g) passed)) (ap Opening.Good (front-good .1))
 
     is-open : g .txn .phase ≡ live
     unfolding liveTests
@@ -87,29 +80,33 @@ module _ (g : Given) where
     pub call-judged : Bytes (g .staging) → Judged (shapeOf s) (g .pool) (g .staging) (g .txn .count)
     call-judged b = record-judged g recorded b
 
--- ---- what is handed back
+-- ---- the two ways out: refused by the first tests, or done by the part below
 
 module _ (p st : List ℕ) (t : Record) where
-  pub refused-back : {ts us : List Test} {x y : After} → Meets (given p st t) ts us x y → {i : ℕ} {r : Reply} → answer (first ts) (shapeIn p) ≡ Opening.Refused i
+  pub refused-back : {ts us : List Test} {x y : After} → Meets (given p st t) ts us x y → {o : Opened} {i : ℕ} {r : Reply} → o ≡ answer (first ts) (shapeIn p) → o ≡ Opening.Refused i
       → r ≡ refusedBack t i → afterOf r p st ≡ y
-  refused-back m e q = rw q (refused-first m e)
+  unfolding conclude
+  refused-back {ts} {us} m {i = i} e o q = rw (q, m .concluded, first-left ts us i (answer-refused (first ts) (shapeIn p) i (sym e ∙ o)))
 
-  module _ {s : Shape} (e : answer (first (front (given p st t))) (shapeIn p) ≡ Opening.Good s) where
+  module _ {o : Opened} {s : Shape} (f : o ≡ answer (first (front (given p st t))) (shapeIn p)) (d : o ≡ Opening.Good s) where
+    done-below : {us : List Test} {x y z : After} → Meets (given p st t) (front (given p st t)) us x y → z ≡ conclude (given p st t) (first us) x → z ≡ y
+    done-below {us} m q = q ∙ rw (m .concluded, first-right (front (given p st t)) us (passed (given p st t) f d))
+
     pub staged-back : (k : Call) {st′ : List ℕ} (x : Staged) {r : Reply} → leftOf x st′ ≡ planned (shapeOf s) p st (t .count) k → r ≡ stagedBack t x → afterOf r p st′ ≡ call (given p st t) k
     unfolding planned
     staged-back k x q h =
-        done-below (call-meets (given p st t) k) e
-        (rw h (ap left (q ∙ ap (λ (z : PoolShape). planned z p st (t .count) k) (record-shape (given p st t) (recorded (given p st t) e))) ∙ both _ (pl (given p st t) k)))
+        done-below (call-meets (given p st t) k)
+        (rw h (ap left (q ∙ ap (λ (z : PoolShape). planned z p st (t .count) k) (record-shape (given p st t) (recorded (given p st t) f d))) ∙ both _ (pl (given p st t) k)))
       where
         left : Left → After
         left l = record { answer = l .answer; left = given p (l .staging) (record { count = l .count; phase = t .phase }) }
 
         both : (o : Option ℕ) (l : Plan) → left (concludeStaged st (t .count) o (l .answer) (l .entries)) ≡ conclude (given p st t) o (record { answer = l .answer; left = staged (given p st t) (l .entries) })
-        both none l = unfold concludeStaged conclude staged in rw (is-open (given p st t) e)
+        both none l = unfold concludeStaged conclude staged in rw (is-open (given p st t) f d)
         both (some i) l = unfold concludeStaged conclude in refl
 
     pub started-back : (x : Stepped) {r : Reply} → x ≡ startedWith t → r ≡ steppedBack x → afterOf r p st ≡ commitStart (given p st t)
-    started-back x q h = done-below (start-meets (given p st t)) e (rw (h, q) (both (t .count) refl))
+    started-back x q h = done-below (start-meets (given p st t)) (rw (h, q) (both (t .count) refl))
       where
         both : (n : ℕ) → t .count ≡ n → afterOf (steppedBack (startedWith t)) p st ≡ conclude (given p st t) (first []) (begun (given p st t))
         both zero i = unfold startedWith startAnswer startPhase conclude first in rw i

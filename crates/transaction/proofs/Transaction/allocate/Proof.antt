@@ -1,5 +1,4 @@
 -- `transaction::Transaction::allocate` meets its contract. Assumes nothing.
-use mathlib.Core.Path.{sym, _∙_}
 use native.Mathlib.Omega.{arith}
 use Rattle.transaction.proofs.Calls.{call-judged, call-meets, refused-back, staged-back}
 use borrow.Author.Needs.{needs}
@@ -19,7 +18,7 @@ enum-known-s : tie.Need-enum-known-s
 enum-known-s c = search needs
 
 allocate-requires : tie.Need-allocate-requires
-allocate-requires c κs = call-judged _ (sym (c .before .before .before .before .ready .ensures) ∙ c .before .before .s .given .1) (λ i. omega (arith, c .before .before .before .before .before .before .before .before .slice-known .given i))
+allocate-requires c κs = call-judged _ (c .before .before .before .before .ready .ensures) (c .before .before .s .given .1) (λ i. omega (arith, c .before .before .before .before .before .before .before .before .slice-known .given i))
 
 staged-requires : tie.Need-staged-requires
 staged-requires c κs = search needs
@@ -28,13 +27,13 @@ same-length : tie.Need-same-length
 same-length c = search needs
 
 returns : tie.Need-returns
-returns c = refused-back _ _ _ (call-meets _ _) (sym (c .before .before .before .before .ready .ensures) ∙ c .before .before .n .given .1) (c .refused .ensures)
+returns c = refused-back _ _ _ (call-meets _ _) (c .before .before .before .before .ready .ensures) (c .before .before .n .given .1) (c .refused .ensures)
 
 same-length-2 : tie.Need-same-length-2
 same-length-2 c = search needs
 
 returns-2 : tie.Need-returns-2
-returns-2 c = staged-back _ _ _ (sym (c .before .before .before .before .before .before .before .before .ready .ensures) ∙ c .before .before .before .before .before .before .s .given .1) _ _ (c .before .before .before .allocate .ensures) (c .staged .ensures)
+returns-2 c = staged-back _ _ _ (c .before .before .before .before .before .before .before .before .ready .ensures) (c .before .before .before .before .before .before .s .given .1) _ _ (c .before .before .before .allocate .ensures) (c .staged .ensures)
 
 pub allocate-spec : {M : Type 1} → statement M
 allocate-spec =

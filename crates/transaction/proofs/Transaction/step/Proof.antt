@@ -27,7 +27,7 @@ same-length : tie.Need-same-length
 same-length c = search needs
 
 returns : tie.Need-returns
-returns c = refused-back _ _ _ (step-meets _ .2) (sym (c .before .before .before .before .judge .ensures) ∙ c .before .before .n .given .1) (c .refused .ensures)
+returns c = refused-back _ _ _ (step-meets _ .2) (c .before .before .before .before .judge .ensures) (c .before .before .n .given .1) (c .refused .ensures)
 
 same-length-2 : tie.Need-same-length-2
 same-length-2 c = search needs

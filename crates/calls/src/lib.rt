@@ -6,9 +6,15 @@ use transaction::Transaction;
 fn say(name: &[u8], r: Reply) -> Transaction {
     let a = r.answer;
     let t = r.transaction;
+    let txn = t.txn;
     answer(name, a);
-    report::number(b"  entries: ", t.count);
+    report::number(b"  entries: ", txn.count);
     t
+}
+
+// A fresh transaction.
+pub fn begin() -> Transaction {
+    Transaction::new()
 }
 
 pub fn allocate(

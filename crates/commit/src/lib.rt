@@ -1,4 +1,4 @@
-// Commit by steps (01, "Commit, cut, recovery"): what its start and each step answer, the phase then, and the step made.
+// Commit by steps (01, "Commit, cut, recovery"): what its start and each step answer, the record then, and the step made.
 ghost use mathlib.Core.Path.{_≡_};
 ghost use mathlib.Core.Bool.{not, _&&_};
 ghost use Prim.Native.Nat.{_+_, _≤_, _<_};
@@ -18,27 +18,35 @@ ghost use Rattle.commit.specs.Stepped.{afterOf, madeOf, startedWith, ste
 use answers::Answer;
 use layout::Shape;
 use record::Phase;
+use record::Record;
 use steps::Action;
 
-// What a start or a step answers, and the phase then.
+// What a start or a step answers, and the record then.
 pub struct Stepped {
     pub answer: Answer,
-    pub phase: Phase,
+    pub txn: Record,
 }
 
-// The start of a commit of `n` entries: done at once where there are none.
-pub fn start(n: usize) -> Stepped
-    ensures { λ r. ⌜ r ≡ startedWith n ⌝ }
+// The start of a commit: done at once where there are no entries.
+pub fn start(txn: Record) -> Stepped
+    ensures { λ r. ⌜ r ≡ startedWith txn ⌝ }
 {
+    let n = txn.count;
     if n == 0 {
         return Stepped {
             answer: Answer::Done(0),
-            phase: Phase::Closed,
+            txn: Record {
+                count: n,
+                phase: Phase::Closed,
+            },
         };
     }
     Stepped {
         answer: Answer::Started,
-        phase: Phase::Committing(0),
+        txn: Record {
+            count: n,
+            phase: Phase::Committing(0),
+        },
     }
 }
 
@@ -53,61 +61,70 @@ fn sealed(s: Shape, pool: &[u8], k: usize) -> bool
     false
 }
 
-// What step k of n, from 1, answers, and the phase then: done with the last.
-fn told(action: Action, k: usize, n: usize) -> Stepped
-    ensures { λ r. ⌜ r ≡ steppedTo action k n ⌝ }
+// What step k of n, from 1, answers, and the record then: done with the last.
+fn told(txn: Record, action: Action, k: usize, n: usize) -> Stepped
+    ensures { λ r. ⌜ r ≡ steppedTo txn action k n ⌝ }
 {
+    let count = txn.count;
     if k == n {
         return Stepped {
             answer: Answer::Done(n),
-            phase: Phase::Closed,
+            txn: Record {
+                count,
+                phase: Phase::Closed,
+            },
         };
     }
-    let phase = Phase::Committing(k);
+    let next = Record {
+        count,
+        phase: Phase::Committing(k),
+    };
     match action {
         Action::Store { at: _, val: _ } => Stepped {
             answer: Answer::Stored(k),
-            phase,
+            txn: next,
         },
         Action::Barrier => Stepped {
             answer: Answer::Passed(k),
-            phase,
+            txn: next,
         },
     }
 }
 
-// Makes step k + 1 of the commit of the `n` entries in `staging`.
-fn make(s: Shape, pool: &mut [u8], staging: &[u8], n: usize, k: usize) -> Stepped
-    requires { ⌜ InRange (shapeOf s) × Ready (shapeOf s) (now pool) (now staging) 0 n 0 × (k < commitLength n) ⌝ }
-    ensures { λ r. ⌜ afterOf r n (now (pool .exit)) (now (staging .entry)) ≡ madeOf (shapeOf s) (now (pool .entry)) (now (staging .entry)) n k ⌝ }
+// Makes step k + 1 of the commit of the entries in `staging`.
+fn make(s: Shape, pool: &mut [u8], staging: &[u8], txn: Record, k: usize) -> Stepped
+    requires { ⌜ InRange (shapeOf s) × Ready (shapeOf s) (now pool) (now staging) 0 (txn .count) 0 × (k < commitLength (txn .count)) ⌝ }
+    ensures { λ r. ⌜ afterOf r (now (pool .exit)) (now (staging .entry)) ≡ madeOf (shapeOf s) (given (now (pool .entry)) (now (staging .entry)) txn) k ⌝ }
 {
+    let n = txn.count;
     let action = steps::commit_action(s, pool, staging, n, k);
     steps::apply(pool, action);
-    told(action, k + 1, record::steps(n))
+    told(txn, action, k + 1, record::steps(n))
 }
 
 // Makes the next step of a commit whose record was judged, or the first of refusals 29, 21.
-pub fn step(s: Shape, pool: &mut [u8], staging: &[u8], count: usize, phase: Phase) -> Stepped
-    requires { ⌜ answer (first (recordTests (given (now pool) (now staging) count phase))) (shapeIn (now pool)) ≡ Good s ⌝ }
-    ensures { λ r. ⌜ afterOf r count (now (pool .exit)) (now (staging .entry)) ≡ commitStep (given (now (pool .entry)) (now (staging .entry)) count phase) ⌝ }
+pub fn step(s: Shape, pool: &mut [u8], staging: &[u8], txn: Record) -> Stepped
+    requires { ⌜ answer (first (recordTests (given (now pool) (now staging) txn))) (shapeIn (now pool)) ≡ Good s ⌝ }
+    ensures { λ r. ⌜ afterOf r (now (pool .exit)) (now (staging .entry)) ≡ commitStep (given (now (pool .entry)) (now (staging .entry)) txn) ⌝ }
 {
+    let phase = txn.phase;
     match phase {
         Phase::Open => Stepped {
             answer: Answer::Refused(29),
-            phase,
+            txn,
         },
         Phase::Closed => Stepped {
             answer: Answer::Refused(29),
-            phase,
+            txn,
         },
         Phase::Committing(k) => {
             if sealed(s, pool, k) {
                 return Stepped {
                     answer: Answer::Refused(21),
-                    phase,
+                    txn,
                 };
             }
-            make(s, pool, staging, count, k)
+            make(s, pool, staging, txn, k)
         }
     }
 }

@@ -1,6 +1,7 @@
 // What a call answers on a forged record or in the wrong phase, in the pool R 2, C 2, Z 1. What is printed is compared with the stored values in
 // `stdout`, which were worked out apart from this code.
 use record::Phase;
+use record::Record;
 use transaction::Transaction;
 
 fn set(s: &mut [u8], at: usize, b: u8) {
@@ -11,7 +12,8 @@ fn set(s: &mut [u8], at: usize, b: u8) {
 
 // A step and an allocate with the record given.
 fn forged(name: &[u8], p: &mut [u8], s: &mut [u8], count: usize, phase: Phase) {
-    let t = Transaction { count, phase };
+    let txn = Record { count, phase };
+    let t = Transaction { txn };
     calls::step(name, t, p, s);
     calls::allocate(b"  allocate with it: ", t, p, s, 5, b"a");
 }

@@ -1,6 +1,7 @@
 // Transactions committed in the pool R 2, C 2, Z 1: the bench examples of document 01 on entries, steps and refusal 27, and others. What is
 // printed is compared with the stored values in `stdout`, which were worked out apart from this code.
 use calls::allocate;
+use calls::begin;
 use calls::commit;
 use calls::free;
 use calls::look;
@@ -8,26 +9,19 @@ use calls::write;
 use transaction::Transaction;
 
 fn allocates(p: &mut [u8], s: &mut [u8]) {
-    let t = allocate(
-        b"allocate tag 5, body 61: ",
-        Transaction::new(),
-        p,
-        s,
-        5,
-        b"a",
-    );
+    let t = allocate(b"allocate tag 5, body 61: ", begin(), p, s, 5, b"a");
     commit(b"  commit: ", t, p, s, 771);
     look(p);
 }
 
 fn writes(p: &mut [u8], s: &mut [u8]) {
-    let t = write(b"write 62 over it: ", Transaction::new(), p, s, 0, 0, b"b");
+    let t = write(b"write 62 over it: ", begin(), p, s, 0, 0, b"b");
     commit(b"  commit: ", t, p, s, 771);
     look(p);
 }
 
 fn frees(p: &mut [u8], s: &mut [u8]) {
-    let t = free(b"free it: ", Transaction::new(), p, s, 0);
+    let t = free(b"free it: ", begin(), p, s, 0);
     commit(b"  commit: ", t, p, s, 771);
     look(p);
 }
@@ -35,7 +29,7 @@ fn frees(p: &mut [u8], s: &mut [u8]) {
 // Two objects, the second one with a body of `n` bytes: 432 touch 122 words, 433 touch 128.
 fn pair(name: &[u8], p: &mut [u8], s: &mut [u8], body: &[u8], n: usize) {
     pool::format(p, 2, 2, 1, 1);
-    let t = allocate(b"body 496: ", Transaction::new(), p, s, 6, body);
+    let t = allocate(b"body 496: ", begin(), p, s, 6, body);
     if n <= body.len() {
         let t = allocate(name, t, p, s, 7, &body[0..n]);
         commit(b"  commit: ", t, p, s, 771);
@@ -44,7 +38,7 @@ fn pair(name: &[u8], p: &mut [u8], s: &mut [u8], body: &[u8], n: usize) {
 
 // Later calls see what earlier ones staged: the new object at cell 8 is written over, and the one at 0 freed and its cells taken.
 fn together(p: &mut [u8], s: &mut [u8]) {
-    let t = allocate(b"body 61 beside it: ", Transaction::new(), p, s, 5, b"a");
+    let t = allocate(b"body 61 beside it: ", begin(), p, s, 5, b"a");
     let t = write(b"and 62 over it: ", t, p, s, 8, 0, b"b");
     let t = retaken(t, p, s);
     commit(b"  commit: ", t, p, s, 771);

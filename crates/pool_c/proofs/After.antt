@@ -4,6 +4,8 @@ use mathlib.Core.Path.{_≡_, sym, ap, _∙_, subst}
 use mathlib.Core.List.{List}
 use Rattle.rules.specs.Staging as Staging
 use Rattle.rules.specs.Answer.{After, Changed, Given}
+use Rattle.rules.specs.Plan.{Call}
+use Rattle.rules.specs.Calls.{call}
 use Rattle.powercut.specs.Recovery.{RecoveryAfter}
 use Rattle.answers.specs.Reading.{answerOf}
 use Rattle.record.specs.Reading.{phaseOf}
@@ -21,7 +23,7 @@ use Rattle.pool_c.specs.declared.recoveries.Recovery as C
 use Rattle.pool_c.specs.declared.recoveries.RecoveryReply.{RecoveryReply}
 use Rattle.pool_c.specs.Reading.{Fits64, afterOut, changedOut, givenIn, phaseIn, phaseOut, recoveryAfterOut, recoveryIn, recoveryReplyOut, replyOut, transactionIn, valueOut}
 use Rattle.pool_c.proofs.Reading.{phase-out-in, progress-out-in, work-out-in}
-use Rattle.pool_c.proofs.Fits.{Fits, Keeps}
+use Rattle.pool_c.proofs.Fits.{Fits, Keeps, call-fits}
 
 -- ---- the pool alone
 
@@ -35,13 +37,22 @@ module _ (f : Given → After) (t : Transaction) (d : Public.Transaction) (x : P
   left : afterOf x q st′ ≡ f (givenIn t p st)
   left = h ∙ ap (λ (z : Staging.Transaction). f (record { pool = p; staging = st; txn = z })) e
 
-  pub after-fits : Keeps f → Fits64 (t .phase) → Fits64 (phaseOut (phaseOf (x .transaction .phase)))
+  pub after-fits : Keeps f → Fits64 (t .phase) → Fits64 (phaseOut (phaseOf (x .transaction .txn .phase)))
   after-fits k l =
       let i : Fits64 (phaseOut (phaseIn (t .phase))) = rw phase-out-in l in
       subst (λ (z : After). Fits64 (phaseOut (z .left .txn .phase))) (sym left) (k (givenIn t p st) i)
 
   pub after-out : {r : Reply} → r ≡ replyOut (answerOf (x .answer)) (transactionOf (x .transaction)) → (r, q, st′) ≡ afterOut (f (givenIn t p st))
   after-out i = ap (λ (z : Reply). (z, q, st′)) i ∙ ap afterOut left
+
+-- allocate, write and free
+module _ (k : Call) (t : Transaction) (d : Public.Transaction) (x : PublicReply.Reply) (p st st′ : List ℕ)
+    (e : transactionOf d ≡ transactionIn t) (h : afterOf x p st′ ≡ call (givenOf d p st) k) where
+  pub call-after-fits : Fits64 (t .phase) → Fits64 (phaseOut (phaseOf (x .transaction .txn .phase)))
+  call-after-fits = after-fits (λ (g : Given). call g k) t d x p st p st′ e h (call-fits k)
+
+  pub call-after-out : {r : Reply} → r ≡ replyOut (answerOf (x .answer)) (transactionOf (x .transaction)) → (r, p, st′) ≡ afterOut (call (givenIn t p st) k)
+  call-after-out = after-out (λ (g : Given). call g k) t d x p st p st′ e h
 
 -- ---- a recovery
 

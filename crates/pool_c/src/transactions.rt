@@ -11,6 +11,7 @@ ghost use Rattle.pool_c.specs.Reading.{afterOut, Fits64, givenIn, phaseI
 use crate::answer::kind;
 use crate::answer::value;
 use record::Phase;
+use record::Record;
 
 // The entries staged, and the phase: 0 open, 1 closed, k + 2 after k steps of the commit.
 #[repr(C)]
@@ -57,25 +58,27 @@ fn decoded(t: Transaction) -> transaction::Transaction
     ensures { λ r. ⌜ transactionOf r ≡ transactionIn t ⌝ }
 {
     let phase = phase_in(t.phase);
-    transaction::Transaction {
+    let txn = Record {
         count: t.count,
         phase,
-    }
+    };
+    transaction::Transaction { txn }
 }
 
 // The reply that goes out.
 fn encoded(r: transaction::Reply) -> Reply
-    requires { ⌜ Fits64 (phaseOut (phaseOf (r .transaction .phase))) ⌝ }
+    requires { ⌜ Fits64 (phaseOut (phaseOf (r .transaction .txn .phase))) ⌝ }
     ensures { λ x. ⌜ x ≡ replyOut (answerOf (r .answer)) (transactionOf (r .transaction)) ⌝ }
 {
     let answer = r.answer;
     let handed = r.transaction;
-    let phase = handed.phase;
+    let txn = handed.txn;
+    let phase = txn.phase;
     Reply {
         kind: kind(answer),
         value: value(answer),
         transaction: Transaction {
-            count: handed.count,
+            count: txn.count,
             phase: phase_out(phase),
         },
     }

@@ -13,7 +13,8 @@ use Rattle.rules.specs.Shape.{Shape as PoolShape, entryLimit, stagingSize}
 use Rattle.rules.specs.Test.{Test, first, when}
 use Rattle.rules.specs.Header.{openTests, shapeIn}
 use Rattle.rules.specs.Seals.{unsealed}
-use Rattle.rules.specs.Staging.{Phase, commitLength, entriesAt, goodTargets, impossible, isLive, pastCommit}
+use Rattle.rules.specs.Staging.{Phase, Transaction, closed, commitLength, committing, entriesAt, goodTargets, impossible, isLive, live, pastCommit}
+use Rattle.rules.specs.Answer.{Given}
 use Rattle.rules.specs.Calls.{liveTests, recordTests}
 use Rattle.rules.proofs.Test.{Passed, first-left, first-passed, first-right, not-not, passed-left, passed-right}
 use Rattle.layout.specs.declared.Shape.{Shape}
@@ -27,7 +28,7 @@ use Rattle.stage.proofs.View.{staged-good}
 use Rattle.answers.specs.Planned.{Judged}
 use Rattle.record.specs.declared.Phase as Code
 use Rattle.record.specs.declared.Phase.the-variants.{Closed, Committing, Open}
-use Rattle.record.specs.Reading.{given, phaseOf, recordOf}
+use Rattle.record.specs.Reading.{phaseOf}
 use Rattle.rules.proofs.Bool.{or-false}
 
 -- ---- the number of steps
@@ -70,30 +71,28 @@ module _ (f : Code.Phase) where
   unfolding isLive
   live-closed e = rw e
 
-  pub open-live : isLive (phaseOf f) ≡ true → f ≡ Open
-  unfolding isLive
-  open-live e = only f e
-    where
-      only : (f : Code.Phase) → isLive (phaseOf f) ≡ true → f ≡ Open
-      only Open e = refl
-      only (Committing k) e = absurd (let z : _≡_ {A = ℕ} 0 1 = cc in omega arith)
-      only Closed e = absurd (let z : _≡_ {A = ℕ} 0 1 = cc in omega arith)
+-- none but an open phase is live
+pub live-only : (f : Phase) → isLive f ≡ true → f ≡ live
+unfolding isLive
+live-only live e = refl
+live-only (committing k) e = absurd (let z : _≡_ {A = ℕ} 0 1 = cc in omega arith)
+live-only closed e = absurd (let z : _≡_ {A = ℕ} 0 1 = cc in omega arith)
 
 -- ---- the record
 
-module _ (sh : PoolShape) (st : List ℕ) (n : ℕ) (f : Code.Phase) where
-  pub impossible-many : entryLimit < n → false ≡ not (impossible sh st (recordOf n f))
+module _ (sh : PoolShape) (st : List ℕ) (t : Transaction) where
+  pub impossible-many : entryLimit < t .count → false ≡ not (impossible sh st t)
   unfolding impossible
-  impossible-many h = rw (lt-ltb entryLimit n h)
+  impossible-many h = rw (lt-ltb entryLimit (t .count) h)
 
-  module _ {x : Bool} (h : n ≤ entryLimit) (p : x ≡ pastCommit n (phaseOf f)) where
-    pub impossible-past : x ≡ true → false ≡ not (impossible sh st (recordOf n f))
+  module _ {x : Bool} (h : t .count ≤ entryLimit) (p : x ≡ pastCommit (t .count) (t .phase)) where
+    pub impossible-past : x ≡ true → false ≡ not (impossible sh st t)
     unfolding impossible
-    impossible-past t = rw (le-ltb entryLimit n h, ← p, t)
+    impossible-past y = rw (le-ltb entryLimit (t .count) h, ← p, y)
 
-    pub possible-fits : {y : Bool} → x ≡ false → y ≡ allFit sh (read st 0 n) → y ≡ not (impossible sh st (recordOf n f))
+    pub possible-fits : {y : Bool} → x ≡ false → y ≡ allFit sh (read st 0 (t .count)) → y ≡ not (impossible sh st t)
     unfolding impossible
-    possible-fits {y} t q = rw (le-ltb entryLimit n h, ← p, t, ← (all-fit-is st 0 n sh), ← q) (twice y)
+    possible-fits {y} w q = rw (le-ltb entryLimit (t .count) h, ← p, w, ← (all-fit-is st 0 (t .count) sh), ← q) (twice y)
       where
         twice : (b : Bool) → b ≡ not (not b)
         twice true = refl
@@ -101,107 +100,107 @@ module _ (sh : PoolShape) (st : List ℕ) (n : ℕ) (f : Code.Phase) where
 
 -- ---- 2, 3, 4, 2, 9, 10
 
-module _ (p st : List ℕ) (n : ℕ) (f : Code.Phase) where
-  module _ {s : Shape} (e : opened p ≡ Opening.Good s) where
+module _ (g : Given) where
+  module _ {s : Shape} (e : opened (g .pool) ≡ Opening.Good s) where
     abbrev behind : List Test
-    behind = when (ltb (length st) stagingSize) 9 ∷ when (impossible (shapeIn p) st (recordOf n f)) 10 ∷ []
+    behind = when (ltb (length (g .staging)) stagingSize) 9 ∷ when (impossible (shapeIn (g .pool)) (g .staging) (g .txn)) 10 ∷ []
 
-    opening : first (recordTests (given p st n f)) ≡ first behind
+    opening : first (recordTests g) ≡ first behind
     unfolding recordTests
-    opening = first-right (openTests p) behind (open-passed p s e)
+    opening = first-right (openTests (g .pool)) behind (open-passed (g .pool) s e)
 
-    pub judge-short : length st < stagingSize → Opening.Refused 9 ≡ answer (first (recordTests (given p st n f))) (shapeIn p)
+    pub judge-short : length (g .staging) < stagingSize → Opening.Refused 9 ≡ answer (first (recordTests g)) (shapeIn (g .pool))
     unfolding answer first
-    judge-short h = rw (opening, lt-ltb (length st) stagingSize h)
+    judge-short h = rw (opening, lt-ltb (length (g .staging)) stagingSize h)
 
-    module _ {x : Bool} (h : stagingSize ≤ length st) (q : x ≡ not (impossible (shapeOf s) st (recordOf n f))) where
-      flip : {b : Bool} → x ≡ b → impossible (shapeIn p) st (recordOf n f) ≡ not b
-      flip t = ap (λ (z : PoolShape). impossible z st (recordOf n f)) (sym (open-good p s e .2)) ∙ other (sym q ∙ t)
+    module _ {x : Bool} (h : stagingSize ≤ length (g .staging)) (q : x ≡ not (impossible (shapeOf s) (g .staging) (g .txn))) where
+      flip : {b : Bool} → x ≡ b → impossible (shapeIn (g .pool)) (g .staging) (g .txn) ≡ not b
+      flip y = ap (λ (z : PoolShape). impossible z (g .staging) (g .txn)) (sym (open-good (g .pool) s e .2)) ∙ other (sym q ∙ y)
         where
           other : {a b : Bool} → not a ≡ b → a ≡ not b
           other {a = true} e = rw (← e)
           other {a = false} e = rw (← e)
 
-      pub judge-bad : x ≡ false → Opening.Refused 10 ≡ answer (first (recordTests (given p st n f))) (shapeIn p)
+      pub judge-bad : x ≡ false → Opening.Refused 10 ≡ answer (first (recordTests g)) (shapeIn (g .pool))
       unfolding answer first
-      judge-bad t = rw (opening, le-ltb (length st) stagingSize h, flip t)
+      judge-bad y = rw (opening, le-ltb (length (g .staging)) stagingSize h, flip y)
 
-      pub judge-good : x ≡ true → Opening.Good s ≡ answer (first (recordTests (given p st n f))) (shapeIn p)
+      pub judge-good : x ≡ true → Opening.Good s ≡ answer (first (recordTests g)) (shapeIn (g .pool))
       unfolding answer first
-      judge-good t = rw (opening, le-ltb (length st) stagingSize h, flip t, ← (open-good p s e .2))
+      judge-good y = rw (opening, le-ltb (length (g .staging)) stagingSize h, flip y, ← (open-good (g .pool) s e .2))
 
-  pub judge-refused : {k : ℕ} → opened p ≡ Opening.Refused k → Opening.Refused k ≡ answer (first (recordTests (given p st n f))) (shapeIn p)
+  pub judge-refused : {k : ℕ} → opened (g .pool) ≡ Opening.Refused k → Opening.Refused k ≡ answer (first (recordTests g)) (shapeIn (g .pool))
   unfolding answer recordTests
-  judge-refused {k} e = rw (first-left (openTests p) _ k (open-refused p k e))
+  judge-refused {k} e = rw (first-left (openTests (g .pool)) _ k (open-refused (g .pool) k e))
 
 -- ---- what a caller knows of a record that passed
 
-module _ (p st : List ℕ) (n : ℕ) (f : Code.Phase) {s : Shape} (e : answer (first (recordTests (given p st n f))) (shapeIn p) ≡ Opening.Good s) where
-  pub record-none : first (recordTests (given p st n f)) ≡ none
-  record-none = answer-good (first (recordTests (given p st n f))) (shapeIn p) s e .0
+module _ (g : Given) {s : Shape} (e : answer (first (recordTests g)) (shapeIn (g .pool)) ≡ Opening.Good s) where
+  pub record-none : first (recordTests g) ≡ none
+  record-none = answer-good (first (recordTests g)) (shapeIn (g .pool)) s e .0
 
-  pub record-passed : Passed (recordTests (given p st n f))
-  record-passed = first-passed (recordTests (given p st n f)) record-none
+  pub record-passed : Passed (recordTests g)
+  record-passed = first-passed (recordTests g) record-none
 
-  pub record-opened : opened p ≡ Opening.Good s
+  pub record-opened : opened (g .pool) ≡ Opening.Good s
   unfolding recordTests
-  record-opened = passed-open p (passed-left (openTests p) _ record-passed) ∙ ap Opening.Good (answer-good (first (recordTests (given p st n f))) (shapeIn p) s e .1)
+  record-opened = passed-open (g .pool) (passed-left (openTests (g .pool)) _ record-passed) ∙ ap Opening.Good (answer-good (first (recordTests g)) (shapeIn (g .pool)) s e .1)
 
-  pub record-shaped : Shaped p (shapeOf s)
-  record-shaped = open-shaped p s record-opened
+  pub record-shaped : Shaped (g .pool) (shapeOf s)
+  record-shaped = open-shaped (g .pool) s record-opened
 
-  pub record-shape : shapeOf s ≡ shapeIn p
-  record-shape = open-good p s record-opened .2
+  pub record-shape : shapeOf s ≡ shapeIn (g .pool)
+  record-shape = open-good (g .pool) s record-opened .2
 
-  tests : (ltb (length st) stagingSize ≡ false) × (impossible (shapeIn p) st (recordOf n f) ≡ false)
+  tests : (ltb (length (g .staging)) stagingSize ≡ false) × (impossible (shapeIn (g .pool)) (g .staging) (g .txn) ≡ false)
   unfolding recordTests
-  tests = let h = passed-right (openTests p) _ record-passed in (h .0, h .1 .0)
+  tests = let h = passed-right (openTests (g .pool)) _ record-passed in (h .0, h .1 .0)
 
-  pub record-room : stagingSize ≤ length st
-  record-room = ltb-false (length st) stagingSize (tests .0)
+  pub record-room : stagingSize ≤ length (g .staging)
+  record-room = ltb-false (length (g .staging)) stagingSize (tests .0)
 
-  possible : impossible (shapeOf s) st (recordOf n f) ≡ false
-  possible = ap (λ (z : PoolShape). impossible z st (recordOf n f)) record-shape ∙ tests .1
+  possible : impossible (shapeOf s) (g .staging) (g .txn) ≡ false
+  possible = ap (λ (z : PoolShape). impossible z (g .staging) (g .txn)) record-shape ∙ tests .1
 
   -- count at most 127, place within its list, targets that fit
-  pub record-possible : (n ≤ entryLimit) × (pastCommit n (phaseOf f) ≡ false) × (goodTargets (shapeOf s) (entriesAt st 0 n) ≡ true)
+  pub record-possible : (g .txn .count ≤ entryLimit) × (pastCommit (g .txn .count) (g .txn .phase) ≡ false) × (goodTargets (shapeOf s) (entriesAt (g .staging) 0 (g .txn .count)) ≡ true)
   unfolding impossible
   record-possible =
-      let a = or-false (ltb entryLimit n) (pastCommit n (phaseOf f) || not (goodTargets (shapeOf s) (entriesAt st 0 n))) possible in
-      let b = or-false (pastCommit n (phaseOf f)) (not (goodTargets (shapeOf s) (entriesAt st 0 n))) (a .1) in
-      (ltb-false entryLimit n (a .0), b .0, not-not (goodTargets (shapeOf s) (entriesAt st 0 n)) (b .1))
+      let a = or-false (ltb entryLimit (g .txn .count)) (pastCommit (g .txn .count) (g .txn .phase) || not (goodTargets (shapeOf s) (entriesAt (g .staging) 0 (g .txn .count)))) possible in
+      let b = or-false (pastCommit (g .txn .count) (g .txn .phase)) (not (goodTargets (shapeOf s) (entriesAt (g .staging) 0 (g .txn .count)))) (a .1) in
+      (ltb-false entryLimit (g .txn .count) (a .0), b .0, not-not (goodTargets (shapeOf s) (entriesAt (g .staging) 0 (g .txn .count))) (b .1))
 
-  pub record-judged : Bytes st → Judged (shapeOf s) p st n
+  pub record-judged : Bytes (g .staging) → Judged (shapeOf s) (g .pool) (g .staging) (g .txn .count)
   record-judged b =
       let k = record-possible in
       let r = record-room in
-      let h : 16 * n ≤ length st = omega (arith, k .0) in
-      record { shaped = record-shaped; staged = staged-good (shapeOf s) p st n b (k .2) (record-shaped .size) (shape-good s (record-shaped .range)) h; few = k .0; room = r }
+      let h : 16 * g .txn .count ≤ length (g .staging) = omega (arith, k .0) in
+      record { shaped = record-shaped; staged = staged-good (shapeOf s) (g .pool) (g .staging) (g .txn .count) b (k .2) (record-shaped .size) (shape-good s (record-shaped .range)) h; few = k .0; room = r }
 
   -- ---- then 29, 21
 
-  pub seals-room : 4608 ≤ length p
-  seals-room = shaped-room p s record-shaped
+  pub seals-room : 4608 ≤ length (g .pool)
+  seals-room = shaped-room (g .pool) s record-shaped
 
-  judged : first (recordTests (given p st n f) ++ liveTests (given p st n f)) ≡ first (liveTests (given p st n f))
-  judged = first-right (recordTests (given p st n f)) (liveTests (given p st n f)) record-passed
+  judged : first (recordTests g ++ liveTests g) ≡ first (liveTests g)
+  judged = first-right (recordTests g) (liveTests g) record-passed
 
-  module _ {x : Bool} (q : x ≡ isLive (phaseOf f)) where
-    pub ready-closed : x ≡ false → Opening.Refused 29 ≡ answer (first (recordTests (given p st n f) ++ liveTests (given p st n f))) (shapeIn p)
+  module _ {x : Bool} (q : x ≡ isLive (g .txn .phase)) where
+    pub ready-closed : x ≡ false → Opening.Refused 29 ≡ answer (first (recordTests g ++ liveTests g)) (shapeIn (g .pool))
     unfolding answer first liveTests
-    ready-closed t = rw (judged, ← q, t)
+    ready-closed y = rw (judged, ← q, y)
 
-    module _ {y : Bool} (t : x ≡ true) (r : y ≡ unsealed (shapeOf s) p) where
-      pub ready-sealed : y ≡ false → Opening.Refused 21 ≡ answer (first (recordTests (given p st n f) ++ liveTests (given p st n f))) (shapeIn p)
+    module _ {y : Bool} (w : x ≡ true) (r : y ≡ unsealed (shapeOf s) (g .pool)) where
+      pub ready-sealed : y ≡ false → Opening.Refused 21 ≡ answer (first (recordTests g ++ liveTests g)) (shapeIn (g .pool))
       unfolding answer first liveTests
-      ready-sealed u = rw (judged, ← q, t, ← record-shape, ← r, u)
+      ready-sealed u = rw (judged, ← q, w, ← record-shape, ← r, u)
 
-      pub ready-good : y ≡ true → Opening.Good s ≡ answer (first (recordTests (given p st n f) ++ liveTests (given p st n f))) (shapeIn p)
+      pub ready-good : y ≡ true → Opening.Good s ≡ answer (first (recordTests g ++ liveTests g)) (shapeIn (g .pool))
       unfolding answer first liveTests
-      ready-good u = rw (judged, ← q, t, ← record-shape, ← r, u)
+      ready-good u = rw (judged, ← q, w, ← record-shape, ← r, u)
 
-pub ready-refused : (p st : List ℕ) (n : ℕ) (f : Code.Phase) {k : ℕ} → answer (first (recordTests (given p st n f))) (shapeIn p) ≡ Opening.Refused k
-    → Opening.Refused k ≡ answer (first (recordTests (given p st n f) ++ liveTests (given p st n f))) (shapeIn p)
+pub ready-refused : (g : Given) {k : ℕ} → answer (first (recordTests g)) (shapeIn (g .pool)) ≡ Opening.Refused k
+    → Opening.Refused k ≡ answer (first (recordTests g ++ liveTests g)) (shapeIn (g .pool))
 unfolding answer
-ready-refused p st n f {k} e =
-    rw (first-left (recordTests (given p st n f)) (liveTests (given p st n f)) k (answer-refused (first (recordTests (given p st n f))) (shapeIn p) k e))
+ready-refused g {k} e =
+    rw (first-left (recordTests g) (liveTests g) k (answer-refused (first (recordTests g)) (shapeIn (g .pool)) k e))

@@ -21,6 +21,12 @@ pub enum Phase {
     Closed,
 }
 
+// The entries counted, and the phase.
+pub struct Record {
+    pub count: usize,
+    pub phase: Phase,
+}
+
 // The steps of a commit of `n` entries.
 pub fn steps(n: usize) -> usize
     requires { ⌜ n ≤ entryLimit ⌝ }
@@ -30,34 +36,35 @@ pub fn steps(n: usize) -> usize
 }
 
 // Whether the place is past the list of the commit's steps.
-fn past(count: usize, phase: Phase) -> bool
-    requires { ⌜ count ≤ entryLimit ⌝ }
-    ensures { λ r. ⌜ r ≡ pastCommit count (phaseOf phase) ⌝ }
+fn past(txn: Record) -> bool
+    requires { ⌜ txn .count ≤ entryLimit ⌝ }
+    ensures { λ r. ⌜ r ≡ pastCommit (txn .count) (phaseOf (txn .phase)) ⌝ }
 {
+    let phase = txn.phase;
     match phase {
-        Phase::Committing(k) => steps(count) <= k,
+        Phase::Committing(k) => steps(txn.count) <= k,
         Phase::Open => false,
         Phase::Closed => false,
     }
 }
 
 // Whether the record is possible.
-fn possible(s: Shape, staging: &[u8], count: usize, phase: Phase) -> bool
+fn possible(s: Shape, staging: &[u8], txn: Record) -> bool
     requires { ⌜ InRange (shapeOf s) × (stagingSize ≤ length (now staging)) ⌝ }
-    ensures { λ r. ⌜ r ≡ not (impossible (shapeOf s) (now (staging .entry)) (recordOf count phase)) ⌝ }
+    ensures { λ r. ⌜ r ≡ not (impossible (shapeOf s) (now (staging .entry)) (recordOf txn)) ⌝ }
 {
-    if Shape::ENTRIES < count {
+    if Shape::ENTRIES < txn.count {
         return false;
     }
-    if past(count, phase) {
+    if past(txn) {
         return false;
     }
-    log::targets_fit(s, staging, 0, count)
+    log::targets_fit(s, staging, 0, txn.count)
 }
 
 // The pool's shape, or the first of refusals 2, 3, 4, 2, 9, 10.
-pub fn judge(pool: &[u8], staging: &[u8], count: usize, phase: Phase) -> Opened
-    ensures { λ r. ⌜ r ≡ answer (first (recordTests (given (now (pool .entry)) (now (staging .entry)) count phase))) (shapeIn (now (pool .entry))) ⌝ }
+pub fn judge(pool: &[u8], staging: &[u8], txn: Record) -> Opened
+    ensures { λ r. ⌜ r ≡ answer (first (recordTests (given (now (pool .entry)) (now (staging .entry)) txn))) (shapeIn (now (pool .entry))) ⌝ }
 {
     match layout::open(pool) {
         Opened::Refused(n) => Opened::Refused(n),
@@ -65,7 +72,7 @@ pub fn judge(pool: &[u8], staging: &[u8], count: usize, phase: Phase) -> Opened
             if staging.len() < Shape::STAGING {
                 return Opened::Refused(9);
             }
-            if possible(s, staging, count, phase) {
+            if possible(s, staging, txn) {
                 return Opened::Good(s);
             }
             Opened::Refused(10)
@@ -73,9 +80,10 @@ pub fn judge(pool: &[u8], staging: &[u8], count: usize, phase: Phase) -> Opened
     }
 }
 
-fn live(phase: Phase) -> bool
-    ensures { λ r. ⌜ r ≡ isLive (phaseOf phase) ⌝ }
+fn live(txn: Record) -> bool
+    ensures { λ r. ⌜ r ≡ isLive (phaseOf (txn .phase)) ⌝ }
 {
+    let phase = txn.phase;
     match phase {
         Phase::Open => true,
         Phase::Committing(_) => false,
@@ -84,13 +92,13 @@ fn live(phase: Phase) -> bool
 }
 
 // The pool's shape, or the first of refusals 2, 3, 4, 2, 9, 10, 29, 21.
-pub fn ready(pool: &[u8], staging: &[u8], count: usize, phase: Phase) -> Opened
-    ensures { λ r. ⌜ r ≡ answer (first (recordTests (given (now (pool .entry)) (now (staging .entry)) count phase) ++ liveTests (given (now (pool .entry)) (now (staging .entry)) count phase))) (shapeIn (now (pool .entry))) ⌝ }
+pub fn ready(pool: &[u8], staging: &[u8], txn: Record) -> Opened
+    ensures { λ r. ⌜ r ≡ answer (first (recordTests (given (now (pool .entry)) (now (staging .entry)) txn) ++ liveTests (given (now (pool .entry)) (now (staging .entry)) txn))) (shapeIn (now (pool .entry))) ⌝ }
 {
-    match judge(pool, staging, count, phase) {
+    match judge(pool, staging, txn) {
         Opened::Refused(n) => Opened::Refused(n),
         Opened::Good(s) => {
-            if !live(phase) {
+            if !live(txn) {
                 return Opened::Refused(29);
             }
             if log::seals_zero(s, pool) {

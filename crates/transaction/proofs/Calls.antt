@@ -1,83 +1,116 @@
--- The ways out of a call on a transaction. Assumes nothing.
-use Prim.Native.Nat.{ℕ}
+-- The ways out of the calls on a transaction. Assumes nothing.
+use Prim.Native.Nat.{ℕ, zero, suc}
 use mathlib.Core.Path.{_≡_, refl, sym, ap, _∙_}
 use mathlib.Core.Option.{Option, none, some}
-use mathlib.Core.List.{List, [], _∷_, _++_, append-assoc}
+use mathlib.Core.List.{List, [], _∷_, _++_, append-assoc, append-nil}
+use native.Mathlib.Omega.{arith}
+use borrow.Author.Tests.{ne-eqb}
 use Rattle.rules.specs.Shape.{Shape as PoolShape}
 use Rattle.rules.specs.Words.{Bytes}
 use Rattle.rules.specs.Test.{Test, first}
 use Rattle.rules.specs.Header.{shapeIn}
 use Rattle.rules.specs.Staging.{isLive, live}
-use Rattle.rules.specs.Answer.{After, Given, conclude, refused}
+use Rattle.rules.specs.Answer.{After, Given, conclude}
 use Rattle.rules.specs.Plan.{Call, Plan, plan}
 use Rattle.rules.specs.Calls.{call, callTests, entriesIn, liveTests, recordTests, staged}
 use Rattle.rules.proofs.Test.{Passed, first-left, first-passed, first-right, not-not, passed-first, passed-left, passed-right}
+use Rattle.powercut.specs.Commit.{commitStart, commitStep, commitTests, startAnswer, startPhase}
 use Rattle.layout.specs.declared.Shape.{Shape}
+use Rattle.layout.specs.declared.Opened.{Opened}
 use Rattle.layout.specs.declared.Opened.the-variants as Opening
-use Rattle.layout.specs.Reading.{answer, shapeOf}
+use Rattle.layout.specs.Reading.{answer, shapeFrom, shapeOf}
 use Rattle.layout.proofs.Opening.{answer-good, answer-refused}
 use Rattle.stage.specs.View.{entriesOf, seen}
-use Rattle.answers.specs.Planned.{Judged, Left, concludeStaged, leftOf, manyTest, planned}
-use Rattle.record.specs.declared.Phase as Code
-use Rattle.record.specs.declared.Phase.the-variants.{Open}
-use Rattle.record.specs.Reading.{given, phaseOf}
-use Rattle.record.proofs.Judging.{open-live, record-judged, record-shape}
-use Rattle.transaction.specs.Reading.{afterOf, handedBack}
 use Rattle.answers.specs.declared.Staged.{Staged}
+use Rattle.answers.specs.Planned.{Judged, Left, concludeStaged, leftOf, manyTest, planned}
+use Rattle.record.specs.declared.Record.{Record}
+use Rattle.record.specs.Reading.{given}
+use Rattle.record.proofs.Judging.{live-only, record-judged, record-shape}
+use Rattle.commit.specs.declared.Stepped.{Stepped}
+use Rattle.commit.specs.Stepped as Commit
+use Rattle.commit.specs.Stepped.{startedWith}
+use Rattle.transaction.specs.declared.Reply.{Reply}
+use Rattle.transaction.specs.Reading.{afterOf, refusedBack, stagedBack, steppedBack}
 
-module _ (p st : List ℕ) (n : ℕ) (f : Code.Phase) where
-  abbrev g : Given
-  g = given p st n f
+-- A call that leaves y meets the tests ts first, then us; it leaves x where all pass.
+pub record Meets (g : Given) (ts us : List Test) (x y : After) : Type 0 where
+  pub concluded : y ≡ conclude g (first (ts ++ us)) x
 
-  -- what a call meets first
+-- ---- what each call meets
+
+module _ (g : Given) where
   abbrev front : List Test
   front = recordTests g ++ liveTests g
 
-  module _ (k : Call) where
-    abbrev pl : Plan
-    pl = plan (shapeIn p) (seen p st n) (entriesOf st n) k
+  abbrev pl : Call → Plan
+  pl k = plan (shapeIn (g .pool)) (seen (g .pool) (g .staging) (g .txn .count)) (entriesOf (g .staging) (g .txn .count)) k
 
-    abbrev rest : List Test
-    rest = pl .tests ++ (manyTest (pl .entries) ∷ [])
+  pub call-meets : (k : Call) → Meets g front (pl k .tests ++ (manyTest (pl k .entries) ∷ [])) (record { answer = pl k .answer; left = staged g (pl k .entries) }) (call g k)
+  unfolding call callTests entriesIn seen entriesOf manyTest
+  call-meets k = record { concluded = rw append-assoc }
 
-    concluded : call g k ≡ conclude g (first (front ++ rest)) (record { answer = pl .answer; left = staged g (pl .entries) })
-    unfolding call callTests entriesIn seen entriesOf manyTest
-    concluded =
-        ap (λ (ts : List Test). conclude g (first ts) (record { answer = pl .answer; left = staged g (pl .entries) })) (sym (append-assoc (recordTests g) (liveTests g) rest))
+  abbrev begun : After
+  begun = record { answer = startAnswer (g .txn .count); left = record { pool = g .pool; staging = g .staging; txn = record { count = g .txn .count; phase = startPhase (g .txn .count) } } }
 
-    pub call-refused : {i : ℕ} → answer (first front) (shapeIn p) ≡ Opening.Refused i → record { answer = refused i; left = g } ≡ call g k
-    unfolding conclude
-    call-refused {i} e = rw (concluded, first-left front rest i (answer-refused (first front) (shapeIn p) i e))
+  pub start-meets : Meets g front [] begun (commitStart g)
+  unfolding commitStart
+  start-meets = record { concluded = rw append-nil }
 
-  module _ {s : Shape} (e : answer (first front) (shapeIn p) ≡ Opening.Good s) where
+  pub step-meets : (us : List Test) × (x : After) × Meets g (recordTests g) us x (commitStep g)
+  unfolding commitStep commitTests
+  step-meets = (_, _, record { concluded = refl })
+
+  -- ---- a record that passed, and is open
+
+  module _ {o : Opened} {s : Shape} (f : o ≡ answer (first front) (shapeIn (g .pool))) (d : o ≡ Opening.Good s) where
+    front-good : (first front ≡ none) × (shapeFrom (shapeIn (g .pool)) ≡ s)
+    front-good = answer-good (first front) (shapeIn (g .pool)) s (sym f ∙ d)
+
     passed : Passed front
-    passed = first-passed front (answer-good (first front) (shapeIn p) s e .0)
+    passed = first-passed front (front-good .0)
 
-    -- the record passed, and is open
-    recorded : answer (first (recordTests g)) (shapeIn p) ≡ Opening.Good s
+    recorded : answer (first (recordTests g)) (shapeIn (g .pool)) ≡ Opening.Good s
     unfolding answer
-    recorded =
-        rw (passed-first (recordTests g) (passed-left (recordTests g) (liveTests g) passed)) (ap Opening.Good (answer-good (first front) (shapeIn p) s e .1))
+    recorded = rw (passed-first (recordTests g) (passed-left (recordTests g) (liveTests g) passed)) (ap Opening.Good (front-good .1))
 
-    is-open : f ≡ Open
+    is-open : g .txn .phase ≡ live
     unfolding liveTests
-    is-open = open-live f (not-not (isLive (phaseOf f)) (passed-right (recordTests g) (liveTests g) passed .0))
+    is-open = live-only (g .txn .phase) (not-not (isLive (g .txn .phase)) (passed-right (recordTests g) (liveTests g) passed .0))
 
-    pub call-judged : Bytes st → Judged (shapeOf s) p st n
-    call-judged b = record-judged p st n f recorded b
+    pub call-judged : Bytes (g .staging) → Judged (shapeOf s) (g .pool) (g .staging) (g .txn .count)
+    call-judged b = record-judged g recorded b
 
-    pub call-planned : (k : Call) {st′ : List ℕ} (x : Staged) → leftOf x st′ ≡ planned (shapeOf s) p st n k → afterOf (handedBack x) p st′ ≡ call g k
+-- ---- the two ways out: refused by the first tests, or done by the part below
+
+module _ (p st : List ℕ) (t : Record) where
+  pub refused-back : {ts us : List Test} {x y : After} → Meets (given p st t) ts us x y → {o : Opened} {i : ℕ} {r : Reply} → o ≡ answer (first ts) (shapeIn p) → o ≡ Opening.Refused i
+      → r ≡ refusedBack t i → afterOf r p st ≡ y
+  unfolding conclude
+  refused-back {ts} {us} m {i = i} e o q = rw (q, m .concluded, first-left ts us i (answer-refused (first ts) (shapeIn p) i (sym e ∙ o)))
+
+  module _ {o : Opened} {s : Shape} (f : o ≡ answer (first (front (given p st t))) (shapeIn p)) (d : o ≡ Opening.Good s) where
+    done-below : {us : List Test} {x y z : After} → Meets (given p st t) (front (given p st t)) us x y → z ≡ conclude (given p st t) (first us) x → z ≡ y
+    done-below {us} m q = q ∙ rw (m .concluded, first-right (front (given p st t)) us (passed (given p st t) f d))
+
+    pub staged-back : (k : Call) {st′ : List ℕ} (x : Staged) {r : Reply} → leftOf x st′ ≡ planned (shapeOf s) p st (t .count) k → r ≡ stagedBack t x → afterOf r p st′ ≡ call (given p st t) k
     unfolding planned
-    call-planned k {st′} x q =
-        let done : After = record { answer = pl k .answer; left = staged g (pl k .entries) } in
-        let a : afterOf (handedBack x) p st′ ≡ left (planned (shapeIn p) p st n k) =
-        ap left (q ∙ ap (λ (z : PoolShape). planned z p st n k) (record-shape p st n f recorded)) in
-        let b : left (planned (shapeIn p) p st n k) ≡ conclude g (first (rest k)) done = both (first (rest k)) in
-        a ∙ b ∙ sym (concluded k ∙ ap (λ (o : Option ℕ). conclude g o done) (first-right front (rest k) passed))
+    staged-back k x q h =
+        done-below (call-meets (given p st t) k)
+        (rw h (ap left (q ∙ ap (λ (z : PoolShape). planned z p st (t .count) k) (record-shape (given p st t) (recorded (given p st t) f d))) ∙ both _ (pl (given p st t) k)))
       where
         left : Left → After
-        left l = record { answer = l .answer; left = record { pool = p; staging = l .staging; txn = record { count = l .count; phase = live } } }
+        left l = record { answer = l .answer; left = given p (l .staging) (record { count = l .count; phase = t .phase }) }
 
-        both : (o : Option ℕ) → left (concludeStaged st n o (pl k .answer) (pl k .entries)) ≡ conclude g o (record { answer = pl k .answer; left = staged g (pl k .entries) })
-        both none = unfold concludeStaged conclude staged in refl
-        both (some i) = unfold concludeStaged conclude in rw is-open
+        both : (o : Option ℕ) (l : Plan) → left (concludeStaged st (t .count) o (l .answer) (l .entries)) ≡ conclude (given p st t) o (record { answer = l .answer; left = staged (given p st t) (l .entries) })
+        both none l = unfold concludeStaged conclude staged in rw (is-open (given p st t) f d)
+        both (some i) l = unfold concludeStaged conclude in refl
+
+    pub started-back : (x : Stepped) {r : Reply} → x ≡ startedWith t → r ≡ steppedBack x → afterOf r p st ≡ commitStart (given p st t)
+    started-back x q h = done-below (start-meets (given p st t)) (rw (h, q) (both (t .count) refl))
+      where
+        both : (n : ℕ) → t .count ≡ n → afterOf (steppedBack (startedWith t)) p st ≡ conclude (given p st t) (first []) (begun (given p st t))
+        both zero i = unfold startedWith startAnswer startPhase conclude first in rw i
+        both (suc n) i = unfold startedWith startAnswer startPhase conclude first in rw (i, ne-eqb (suc n) 0 (λ e. omega arith))
+
+pub stepped-back : {q st : List ℕ} {y : After} (x : Stepped) {r : Reply} → Commit.afterOf x q st ≡ y → r ≡ steppedBack x → afterOf r q st ≡ y
+stepped-back x h e = rw e h

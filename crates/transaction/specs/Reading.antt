@@ -5,26 +5,31 @@ use Rattle.rules.specs.Staging as Paper
 use Rattle.rules.specs.Answer.{After, Given}
 use Rattle.answers.specs.declared.Staged.{Staged}
 use Rattle.answers.specs.Reading.{answerOf}
-use Rattle.record.specs.declared.Phase.the-variants.{Open}
-use Rattle.record.specs.Reading.{recordOf}
+use Rattle.answers.specs.declared.Answer.the-variants.{Refused}
+use Rattle.record.specs.declared.Record.{Record}
+use Rattle.record.specs.Reading.{given, recordOf}
 use Rattle.commit.specs.declared.Stepped.{Stepped}
 use Rattle.transaction.specs.declared.Transaction.{Transaction}
 use Rattle.transaction.specs.declared.Reply.{Reply}
 
 abbrev pub transactionOf : Transaction → Paper.Transaction
-transactionOf t = recordOf (t .count) (t .phase)
+transactionOf t = recordOf (t .txn)
 
 -- What a call is given, and what it leaves.
 abbrev pub givenOf : Transaction → List ℕ → List ℕ → Given
-givenOf t pool staging = record { pool = pool; staging = staging; txn = transactionOf t }
+givenOf t pool staging = given pool staging (t .txn)
 
 abbrev pub afterOf : Reply → List ℕ → List ℕ → After
 afterOf r pool staging = record { answer = answerOf (r .answer); left = givenOf (r .transaction) pool staging }
 
--- A call that stages words hands back an open transaction.
-abbrev pub handedBack : Staged → Reply
-handedBack s = record { answer = s .answer; transaction = record { count = s .count; phase = Open } }
+-- A refused call hands back the transaction as it was.
+abbrev pub refusedBack : Record → ℕ → Reply
+refusedBack t n = record { answer = Refused n; transaction = record { txn = t } }
 
--- A commit's start or step hands back the transaction in the phase that it comes to.
-abbrev pub steppedBack : Stepped → ℕ → Reply
-steppedBack s n = record { answer = s .answer; transaction = record { count = n; phase = s .phase } }
+-- A call that stages words hands back the transaction in the same phase, with the number of entries then.
+abbrev pub stagedBack : Record → Staged → Reply
+stagedBack t s = record { answer = s .answer; transaction = record { txn = record { count = s .count; phase = t .phase } } }
+
+-- A commit's start or step hands back the record that it comes to.
+abbrev pub steppedBack : Stepped → Reply
+steppedBack s = record { answer = s .answer; transaction = record { txn = s .txn } }

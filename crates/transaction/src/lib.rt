@@ -6,17 +6,17 @@ ghost use Rattle.rules.specs.Staging.{fresh};
 ghost use Rattle.rules.specs.Plan.{allocate as Allocate, release, write as Write};
 ghost use Rattle.rules.specs.Calls.{call};
 ghost use Rattle.powercut.specs.Commit.{commitStart, commitStep};
-ghost use Rattle.transaction.specs.Reading.{afterOf, givenOf, handedBack, steppedBack, transactionOf};
+ghost use Rattle.transaction.specs.Reading.{afterOf, givenOf, refusedBack, stagedBack, steppedBack, transactionOf};
 use answers::Answer;
 use answers::Staged;
 use commit::Stepped;
 use layout::Opened;
 use record::Phase;
+use record::Record;
 
-// The entries counted, and the phase.
+// A transaction is its record.
 pub struct Transaction {
-    pub count: usize,
-    pub phase: Phase,
+    pub txn: Record,
 }
 
 // What a call answers, and the transaction that it hands back.
@@ -25,29 +25,41 @@ pub struct Reply {
     pub transaction: Transaction,
 }
 
-// What a call that stages words hands back: the transaction is still open.
-fn handed(s: Staged) -> Reply
-    ensures { λ r. ⌜ r ≡ handedBack s ⌝ }
+// What a refused call hands back: the transaction as it was.
+fn refused(txn: Record, n: u8) -> Reply
+    ensures { λ r. ⌜ r ≡ refusedBack txn n ⌝ }
+{
+    Reply {
+        answer: Answer::Refused(n),
+        transaction: Transaction { txn },
+    }
+}
+
+// What a call that stages words hands back: the phase stays, and the count is the call's.
+fn staged(txn: Record, s: Staged) -> Reply
+    ensures { λ r. ⌜ r ≡ stagedBack txn s ⌝ }
 {
     let answer = s.answer;
+    let phase = txn.phase;
+    let txn = Record {
+        count: s.count,
+        phase,
+    };
     Reply {
         answer,
-        transaction: Transaction {
-            count: s.count,
-            phase: Phase::Open,
-        },
+        transaction: Transaction { txn },
     }
 }
 
 // What a commit's start or step hands back.
-fn stepped(s: Stepped, count: usize) -> Reply
-    ensures { λ r. ⌜ r ≡ steppedBack s count ⌝ }
+fn stepped(s: Stepped) -> Reply
+    ensures { λ r. ⌜ r ≡ steppedBack s ⌝ }
 {
     let answer = s.answer;
-    let phase = s.phase;
+    let txn = s.txn;
     Reply {
         answer,
-        transaction: Transaction { count, phase },
+        transaction: Transaction { txn },
     }
 }
 
@@ -57,8 +69,10 @@ impl Transaction {
         ensures { λ r. ⌜ transactionOf r ≡ fresh ⌝ }
     {
         Transaction {
-            count: 0,
-            phase: Phase::Open,
+            txn: Record {
+                count: 0,
+                phase: Phase::Open,
+            },
         }
     }
 
@@ -66,14 +80,15 @@ impl Transaction {
     pub fn allocate(self, pool: &[u8], staging: &mut [u8], tag: u32, body: &[u8]) -> Reply
         ensures { λ r. ⌜ afterOf r (now (pool .entry)) (now (staging .exit)) ≡ call (givenOf self (now (pool .entry)) (now (staging .entry))) (Allocate tag (now (body .entry))) ⌝ }
     {
-        let count = self.count;
-        let phase = self.phase;
-        match record::ready(pool, staging, count, phase) {
-            Opened::Refused(n) => Reply {
-                answer: Answer::Refused(n),
-                transaction: self,
-            },
-            Opened::Good(s) => handed(allocate::allocate(pool, staging, count, s, tag, body)),
+        let txn = self.txn;
+        match record::ready(pool, staging, txn) {
+            Opened::Refused(n) => refused(txn, n),
+            Opened::Good(s) => {
+                staged(
+                    txn,
+                    allocate::allocate(pool, staging, txn.count, s, tag, body),
+                )
+            }
         }
     }
 
@@ -88,14 +103,15 @@ impl Transaction {
     ) -> Reply
         ensures { λ r. ⌜ afterOf r (now (pool .entry)) (now (staging .exit)) ≡ call (givenOf self (now (pool .entry)) (now (staging .entry))) (Write address at (now (bytes .entry))) ⌝ }
     {
-        let count = self.count;
-        let phase = self.phase;
-        match record::ready(pool, staging, count, phase) {
-            Opened::Refused(n) => Reply {
-                answer: Answer::Refused(n),
-                transaction: self,
-            },
-            Opened::Good(s) => handed(write::write(pool, staging, count, s, address, at, bytes)),
+        let txn = self.txn;
+        match record::ready(pool, staging, txn) {
+            Opened::Refused(n) => refused(txn, n),
+            Opened::Good(s) => {
+                staged(
+                    txn,
+                    write::write(pool, staging, txn.count, s, address, at, bytes),
+                )
+            }
         }
     }
 
@@ -103,28 +119,21 @@ impl Transaction {
     pub fn free(self, pool: &[u8], staging: &mut [u8], address: usize) -> Reply
         ensures { λ r. ⌜ afterOf r (now (pool .entry)) (now (staging .exit)) ≡ call (givenOf self (now (pool .entry)) (now (staging .entry))) (release address) ⌝ }
     {
-        let count = self.count;
-        let phase = self.phase;
-        match record::ready(pool, staging, count, phase) {
-            Opened::Refused(n) => Reply {
-                answer: Answer::Refused(n),
-                transaction: self,
-            },
-            Opened::Good(s) => handed(free::free(pool, staging, count, s, address)),
+        let txn = self.txn;
+        match record::ready(pool, staging, txn) {
+            Opened::Refused(n) => refused(txn, n),
+            Opened::Good(s) => { staged(txn, free::free(pool, staging, txn.count, s, address)) }
         }
     }
+
     // Starts the commit: closes staging and makes no store.
     pub fn commit(self, pool: &[u8], staging: &[u8]) -> Reply
         ensures { λ r. ⌜ afterOf r (now (pool .entry)) (now (staging .entry)) ≡ commitStart (givenOf self (now (pool .entry)) (now (staging .entry))) ⌝ }
     {
-        let count = self.count;
-        let phase = self.phase;
-        match record::ready(pool, staging, count, phase) {
-            Opened::Refused(n) => Reply {
-                answer: Answer::Refused(n),
-                transaction: self,
-            },
-            Opened::Good(_) => stepped(commit::start(count), count),
+        let txn = self.txn;
+        match record::ready(pool, staging, txn) {
+            Opened::Refused(n) => refused(txn, n),
+            Opened::Good(_) => stepped(commit::start(txn)),
         }
     }
 
@@ -132,14 +141,10 @@ impl Transaction {
     pub fn step(self, pool: &mut [u8], staging: &[u8]) -> Reply
         ensures { λ r. ⌜ afterOf r (now (pool .exit)) (now (staging .entry)) ≡ commitStep (givenOf self (now (pool .entry)) (now (staging .entry))) ⌝ }
     {
-        let count = self.count;
-        let phase = self.phase;
-        match record::judge(pool, staging, count, phase) {
-            Opened::Refused(n) => Reply {
-                answer: Answer::Refused(n),
-                transaction: self,
-            },
-            Opened::Good(s) => stepped(commit::step(s, pool, staging, count, phase), count),
+        let txn = self.txn;
+        match record::judge(pool, staging, txn) {
+            Opened::Refused(n) => refused(txn, n),
+            Opened::Good(s) => stepped(commit::step(s, pool, staging, txn)),
         }
     }
 }

@@ -17,19 +17,19 @@ enum-known-s : tie.Need-enum-known-s
 enum-known-s c = search needs
 
 returns : tie.Need-returns
-returns c = judge-short _ _ _ (c .before .before .before .before .before .before .before .args .phase) (sym (c .before .before .before .before .«open» .ensures) ∙ c .before .before .s .given .1) (omega (arith, c .if1 .taken))
+returns c = judge-short _ (sym (c .before .before .before .before .«open» .ensures) ∙ c .before .before .s .given .1) (omega (arith, c .if1 .taken))
 
 possible-requires : tie.Need-possible-requires
 possible-requires c κs = (open-good _ _ (sym (c .before .before .before .before .«open» .ensures) ∙ c .before .before .s .given .1) .1, c .if1 .left)
 
 returns-2 : tie.Need-returns-2
-returns-2 c = judge-good _ _ _ (c .before .before .before .before .before .before .before .before .before .args .phase) (sym (c .before .before .before .before .before .before .«open» .ensures) ∙ c .before .before .before .before .s .given .1) (c .before .before .if1 .left) (c .before .possible .ensures) (c .if2 .taken)
+returns-2 c = judge-good _ (sym (c .before .before .before .before .before .before .«open» .ensures) ∙ c .before .before .before .before .s .given .1) (c .before .before .if1 .left) (c .before .possible .ensures) (c .if2 .taken)
 
 returns-3 : tie.Need-returns-3
-returns-3 c = judge-refused _ _ _ (c .before .before .before .before .before .before .args .phase) (sym (c .before .before .before .«open» .ensures) ∙ c .before .n .given .1)
+returns-3 c = judge-refused _ (sym (c .before .before .before .«open» .ensures) ∙ c .before .n .given .1)
 
 returns-4 : tie.Need-returns-4
-returns-4 c = judge-bad _ _ _ (c .before .before .before .before .before .before .before .before .before .args .phase) (sym (c .before .before .before .before .before .before .«open» .ensures) ∙ c .before .before .before .before .s .given .1) (c .before .before .if1 .left) (c .before .possible .ensures) (c .if2 .left)
+returns-4 c = judge-bad _ (sym (c .before .before .before .before .before .before .«open» .ensures) ∙ c .before .before .before .before .s .given .1) (c .before .before .if1 .left) (c .before .possible .ensures) (c .if2 .left)
 
 pub judge-spec : {M : Type 1} → statement M
 judge-spec =

@@ -1,25 +1,24 @@
 -- `record::possible` meets its contract. Assumes nothing.
 use Rattle.record.proofs.Judging.{impossible-many, impossible-past, possible-fits}
-use Rattle.layout.specs.Reading.{shapeOf}
 use native.Mathlib.Omega.{arith}
 use borrow.Author.Needs.{needs}
 use Rattle.record.proofs.possible.Statement.{statement}
 use Rattle.record.proofs.possible.Tie as tie
 
 returns : tie.Need-returns
-returns c = let s = c .before .before .args in impossible-many (shapeOf (s .s)) _ _ (s .phase) (omega (arith, c .if1 .taken))
+returns c = impossible-many _ _ _ (omega (arith, c .if1 .taken))
 
 past-requires : tie.Need-past-requires
 past-requires c κs = omega (arith, c .if1 .left)
 
 returns-2 : tie.Need-returns-2
-returns-2 c = let s = c .before .before .before .before .args in impossible-past (shapeOf (s .s)) _ _ (s .phase) (c .before .before .if1 .left) (c .before .past .ensures) (c .if2 .taken)
+returns-2 c = impossible-past _ _ _ (c .before .before .if1 .left) (c .before .past .ensures) (c .if2 .taken)
 
 targets-fit-requires : tie.Need-targets-fit-requires
 targets-fit-requires c κs = search needs
 
 returns-3 : tie.Need-returns-3
-returns-3 c = let s = c .before .before .before .before .before .args in possible-fits (shapeOf (s .s)) _ _ (s .phase) (c .before .before .before .if1 .left) (c .before .before .past .ensures) (c .before .if2 .left) (c .targets-fit .ensures)
+returns-3 c = possible-fits _ _ _ (c .before .before .before .if1 .left) (c .before .before .past .ensures) (c .before .if2 .left) (c .targets-fit .ensures)
 
 pub possible-spec : {M : Type 1} → statement M
 possible-spec = tie.close (tie.spec returns past-requires returns-2 targets-fit-requires returns-3)

@@ -19,19 +19,19 @@ live-requires : tie.Need-live-requires
 live-requires c κs = search needs
 
 returns : tie.Need-returns
-returns c = ready-closed _ _ _ (c .before .before .before .before .before .before .before .before .args .phase) (sym (c .before .before .before .before .before .judge .ensures) ∙ c .before .before .before .s .given .1) (c .before .live .ensures) (not-true (c .before .live .result) (c .if1 .taken))
+returns c = ready-closed _ (sym (c .before .before .before .before .before .judge .ensures) ∙ c .before .before .before .s .given .1) (c .before .live .ensures) (not-true (c .before .live .result) (c .if1 .taken))
 
 seals-zero-requires : tie.Need-seals-zero-requires
-seals-zero-requires c κs = seals-room _ _ _ (c .before .before .before .before .before .before .before .before .args .phase) (sym (c .before .before .before .before .before .judge .ensures) ∙ c .before .before .before .s .given .1)
+seals-zero-requires c κs = seals-room _ (sym (c .before .before .before .before .before .judge .ensures) ∙ c .before .before .before .s .given .1)
 
 returns-2 : tie.Need-returns-2
-returns-2 c = ready-good _ _ _ (c .before .before .before .before .before .before .before .before .before .before .args .phase) (sym (c .before .before .before .before .before .before .before .judge .ensures) ∙ c .before .before .before .before .before .s .given .1) (c .before .before .before .live .ensures) (not-false (c .before .before .before .live .result) (c .before .before .if1 .left)) (c .before .seals-zero .ensures) (c .if2 .taken)
+returns-2 c = ready-good _ (sym (c .before .before .before .before .before .before .before .judge .ensures) ∙ c .before .before .before .before .before .s .given .1) (c .before .before .before .live .ensures) (not-false (c .before .before .before .live .result) (c .before .before .if1 .left)) (c .before .seals-zero .ensures) (c .if2 .taken)
 
 returns-3 : tie.Need-returns-3
-returns-3 c = ready-refused _ _ _ (c .before .before .before .before .before .before .args .phase) (sym (c .before .before .before .judge .ensures) ∙ c .before .n .given .1)
+returns-3 c = ready-refused _ (sym (c .before .before .before .judge .ensures) ∙ c .before .n .given .1)
 
 returns-4 : tie.Need-returns-4
-returns-4 c = ready-sealed _ _ _ (c .before .before .before .before .before .before .before .before .before .before .args .phase) (sym (c .before .before .before .before .before .before .before .judge .ensures) ∙ c .before .before .before .before .before .s .given .1) (c .before .before .before .live .ensures) (not-false (c .before .before .before .live .result) (c .before .before .if1 .left)) (c .before .seals-zero .ensures) (c .if2 .left)
+returns-4 c = ready-sealed _ (sym (c .before .before .before .before .before .before .before .judge .ensures) ∙ c .before .before .before .before .before .s .given .1) (c .before .before .before .live .ensures) (not-false (c .before .before .before .live .result) (c .before .before .if1 .left)) (c .before .seals-zero .ensures) (c .if2 .left)
 
 pub ready-spec : {M : Type 1} → statement M
 ready-spec =

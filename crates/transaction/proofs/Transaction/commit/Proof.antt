@@ -1,6 +1,5 @@
 -- `transaction::Transaction::commit` meets its contract. Assumes nothing.
-use mathlib.Core.Path.{sym, _∙_}
-use Rattle.transaction.proofs.Commits.{start-made, start-refused}
+use Rattle.transaction.proofs.Calls.{refused-back, start-meets, started-back}
 use borrow.Author.Needs.{needs}
 use Rattle.transaction.proofs.Transaction.commit.Statement.{statement}
 use Rattle.transaction.proofs.Transaction.commit.Tie as tie
@@ -10,6 +9,9 @@ ready-requires c κs = search needs
 
 enum-known-n : tie.Need-enum-known-n
 enum-known-n c = search needs
+
+refused-requires : tie.Need-refused-requires
+refused-requires c κs = search needs
 
 enum-told : tie.Need-enum-told
 enum-told c = search needs
@@ -21,10 +23,10 @@ stepped-requires : tie.Need-stepped-requires
 stepped-requires c κs = search needs
 
 returns : tie.Need-returns
-returns c = start-refused _ _ _ (c .before .before .before .before .before .before .args .self .phase) (sym (c .before .before .before .ready .ensures) ∙ c .before .n .given .1)
+returns c = refused-back _ _ _ (start-meets _) (c .before .before .before .before .ready .ensures) (c .before .before .n .given .1) (c .refused .ensures)
 
 returns-2 : tie.Need-returns-2
-returns-2 c = start-made _ _ _ (c .before .before .before .before .before .before .before .args .self .phase) (c .before .start .result) (c .stepped .result) (sym (c .before .before .before .before .ready .ensures) ∙ c .before .before .enum-told .given .1) (c .before .start .ensures) (c .stepped .ensures)
+returns-2 c = started-back _ _ _ (c .before .before .before .before .ready .ensures) (c .before .before .enum-told .given .1) _ (c .before .start .ensures) (c .stepped .ensures)
 
 pub commit-spec : {M : Type 1} → statement M
 commit-spec =
@@ -32,6 +34,7 @@ commit-spec =
     (tie.spec
     ready-requires
     enum-known-n
+    refused-requires
     enum-told
     start-requires
     stepped-requires

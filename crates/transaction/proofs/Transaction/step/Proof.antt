@@ -1,6 +1,6 @@
 -- `transaction::Transaction::step` meets its contract. Assumes nothing.
 use mathlib.Core.Path.{sym, _∙_}
-use Rattle.transaction.proofs.Commits.{step-made, step-refused}
+use Rattle.transaction.proofs.Calls.{refused-back, step-meets, stepped-back}
 use borrow.Author.Needs.{needs}
 use Rattle.transaction.proofs.Transaction.step.Statement.{statement}
 use Rattle.transaction.proofs.Transaction.step.Tie as tie
@@ -10,6 +10,9 @@ judge-requires c κs = search needs
 
 enum-known-n : tie.Need-enum-known-n
 enum-known-n c = search needs
+
+refused-requires : tie.Need-refused-requires
+refused-requires c κs = search needs
 
 enum-known-s : tie.Need-enum-known-s
 enum-known-s c = search needs
@@ -24,13 +27,13 @@ same-length : tie.Need-same-length
 same-length c = search needs
 
 returns : tie.Need-returns
-returns c = step-refused _ _ _ (c .before .before .before .before .before .before .before .args .self .phase) (sym (c .before .before .before .judge .ensures) ∙ c .before .n .given .1)
+returns c = refused-back _ _ _ (step-meets _ .2) (c .before .before .before .before .judge .ensures) (c .before .before .n .given .1) (c .refused .ensures)
 
 same-length-2 : tie.Need-same-length-2
 same-length-2 c = search needs
 
 returns-2 : tie.Need-returns-2
-returns-2 c = step-made _ _ _ (c .before .before .before .before .before .before .before .before .before .before .before .before .args .self .phase) (c .before .before .before .step .result) (c .stepped .result) (c .before .before .before .step .ensures) (c .stepped .ensures)
+returns-2 c = stepped-back _ (c .before .before .before .step .ensures) (c .stepped .ensures)
 
 pub step-spec : {M : Type 1} → statement M
 step-spec =
@@ -38,6 +41,7 @@ step-spec =
     (tie.spec
     judge-requires
     enum-known-n
+    refused-requires
     enum-known-s
     step-requires
     stepped-requires

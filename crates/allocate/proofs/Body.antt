@@ -7,6 +7,7 @@ use native.Mathlib.Omega.{arith}
 use lib.ListN.{length, getD, replicate, List·getD-eq-default}
 use Rattle.rules.specs.Words.{field, number, word}
 use Rattle.rules.specs.Staging.{Store, touchWords}
+use Rattle.rules.proofs.Zeros.{then-zeros}
 use Rattle.rules.proofs.Words.{word-cong}
 use Rattle.words.specs.Loaded.{Loaded}
 use Rattle.words.proofs.Fields.{field-byte, loaded-join}
@@ -46,18 +47,8 @@ touched-word {ys = ys} s u t e f = touched-more s e (u .value ∙ ap (word ys) f
 
 -- ---- zeros after a body
 
-zeros-read : (z i : ℕ) → _≡_ {A = ℕ} (getD (replicate z 0) i 0) 0
-zeros-read zero i = refl
-zeros-read (suc z) zero = refl
-zeros-read (suc z) (suc i) = zeros-read z i
-
-zeros-after : (ys : List ℕ) (z i : ℕ) → getD (ys ++ replicate z 0) i 0 ≡ getD ys i 0
-zeros-after [] z i = zeros-read z i
-zeros-after (y ∷ ys) z zero = refl
-zeros-after (y ∷ ys) z (suc i) = zeros-after ys z i
-
 pub touch-zeros : (k o : ℕ) (ys : List ℕ) (z : ℕ) (es : List Store) → touchWords k o (ys ++ replicate z 0) es ≡ touchWords k o ys es
 touch-zeros zero o ys z es = unfold touchWords in refl
 touch-zeros (suc k) o ys z es =
-    let w : word (ys ++ replicate z 0) (8 * k) ≡ word ys (8 * k) = word-cong (ys ++ replicate z 0) ys (8 * k) (λ i h. zeros-after ys z (8 * k + i)) in
+    let w : word (ys ++ replicate z 0) (8 * k) ≡ word ys (8 * k) = word-cong (ys ++ replicate z 0) ys (8 * k) (λ i h. then-zeros ys z (8 * k + i)) in
     touch-words-more k o (ys ++ replicate z 0) es ∙ rw (w, touch-zeros k o ys z es) (sym (touch-words-more k o ys es))

@@ -17,7 +17,9 @@ use Rattle.rules.specs.Scrub.{allTo}
 use Rattle.rules.proofs.Bool.{split}
 use Rattle.rules.proofs.Words.{sets-after}
 use Rattle.rules.proofs.Sets.{sets-all}
-use Rattle.rules.proofs.Repair.{tab-at, tab-length}
+use Rattle.rules.proofs.Repair.{tab-at, tab-cong, tab-length}
+use Rattle.rules.proofs.Scrub.{all-cong}
+use Rattle.rules.proofs.Zeros.{or-zero}
 use Rattle.rules.proofs.Xor.{skip-else, xorTo-cong}
 use Rattle.pages.proofs.Storing.{Storing, storing-end}
 use Rattle.columns.specs.Column.{otherByte, rowByte, rowsZero, xored, zeros}
@@ -40,12 +42,6 @@ module _ (s p : List ℕ) (at : ℕ) {s′ : List ℕ} {i : ℕ} (f : Storing s 
   xored-end h = storing-end f (let l = xored-length s p at in omega arith) ∙ sets-all s (xored s p at) (sym (xored-length s p at))
 
 -- ---- one more row
-
-tab-cong : (n : ℕ) (f g : ℕ → ℕ) → ((i : ℕ) → i < n → f i ≡ g i) → tabFrom 0 n f ≡ tabFrom 0 n g
-tab-cong n f g h =
-    ext-getD 0 (tabFrom 0 n f) (tabFrom 0 n g) (tab-length 0 n f ∙ sym (tab-length 0 n g))
-    (λ i l. let j : i < n = rw (tab-length 0 n f) at l in
-    tab-at 0 n f i j ∙ rw (zero-add i) (h i j) ∙ sym (tab-at 0 n g i j ∙ ap g (zero-add i)))
 
 zeros-tab : (k n : ℕ) (f : ℕ → ℕ) → ((i : ℕ) → f i ≡ 0) → replicate n 0 ≡ tabFrom k n f
 unfolding tabFrom
@@ -102,19 +98,9 @@ module _ (n m : ℕ) (h : n ≤ m) where
 
 -- ---- bytes judged zero
 
-or-zero : (a b : ℕ) → eqb (bitOr a b) 0 ≡ eqb a 0 && eqb b 0
-or-zero a b = split (eqb a 0)
-    (λ e. let z : a ≡ 0 = eqb-true a 0 e in rw e (rw z (ap (λ (x : ℕ). eqb x 0) (or-zero-l b))))
-    (λ e. rw e (ne-eqb (bitOr a b) 0 (λ z. eqb-false a 0 e (let s = or-add-and a b in let l = and-le-r a b in omega arith))))
-
 pub zeros-more : (s : List ℕ) (i any : ℕ) → eqb any 0 ≡ zeros s i → eqb (bitOr any (getD s i 0)) 0 ≡ zeros s (i + 1)
 unfolding zeros allTo
 zeros-more s i any e = or-zero any (getD s i 0) ∙ rw (add-one i) (ap (λ (b : Bool). b && eqb (getD s i 0) 0) e)
-
-pub allTo-cong : (n : ℕ) (f g : ℕ → Bool) → ((i : ℕ) → i < n → f i ≡ g i) → allTo n f ≡ allTo n g
-unfolding allTo
-allTo-cong zero f g h = refl
-allTo-cong (suc n) f g h = ap₂ _&&_ (allTo-cong n f g (λ i l. h i (omega arith))) (h n (omega arith))
 
 -- no row is left out where the one behind the last is
 pub rows-judged : (p : List ℕ) (at stride rows n : ℕ) {s : List ℕ} {r : Bool} → s ≡ tabFrom 0 n (otherByte p at stride rows rows) → r ≡ zeros s (length s)
@@ -122,5 +108,5 @@ pub rows-judged : (p : List ℕ) (at stride rows n : ℕ) {s : List ℕ} {r : Bo
 unfolding otherByte zeros rowsZero
 rows-judged p at stride rows n {s} {r} e f =
     f ∙ ap (zeros s) (ap length e ∙ tab-length 0 n (otherByte p at stride rows rows))
-    ∙ allTo-cong n _ _ (λ i h. ap (λ (x : ℕ). eqb x 0) (ap (λ (x : List ℕ). getD x i 0) e ∙ tab-at 0 n (otherByte p at stride rows rows) i h ∙ ap (otherByte p at stride rows rows) (zero-add i)
+    ∙ all-cong n _ _ (λ i h. ap (λ (x : ℕ). eqb x 0) (ap (λ (x : List ℕ). getD x i 0) e ∙ tab-at 0 n (otherByte p at stride rows rows) i h ∙ ap (otherByte p at stride rows rows) (zero-add i)
     ∙ xorTo-cong rows _ (rowByte p at stride i) (λ k l. skip-else rows (rowByte p at stride i) k (omega arith))))

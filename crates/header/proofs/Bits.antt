@@ -11,18 +11,8 @@ use lib.ListN.{length, drop, getD}
 use lib.Seq.{drop-cons, drop-length}
 use borrow.Author.Tests.{eqb-true, eq-eqb}
 use Rattle.rules.specs.Header.{same}
-use Rattle.rules.proofs.Bool.{split}
-
-pub or-zero : (a b : ℕ) → eqb (bitOr a b) 0 ≡ (eqb a 0 && eqb b 0)
-or-zero a b =
-    let s = or-add-and a b in
-    let l = and-le-l a b in
-    let r = and-le-r a b in
-    split (eqb (bitOr a b) 0)
-    (λ e. let z = eqb-true (bitOr a b) 0 e in e ∙ sym (rw (eq-eqb a 0 (omega arith), eq-eqb b 0 (omega arith))))
-    (λ e. split (eqb a 0)
-    (λ x. let p = eqb-true a 0 x in e ∙ sym (rw x (sym (ap (λ (n : ℕ). eqb n 0) (ap (λ (n : ℕ). bitOr n b) p ∙ or-zero-l b)) ∙ e)))
-    (λ x. e ∙ sym (rw x)))
+use Rattle.rules.proofs.Bool.{and-true, split}
+use Rattle.rules.proofs.Zeros.{or-zero}
 
 pub xor-zero : (a b : ℕ) → eqb (bitXor a b) 0 ≡ eqb a b
 xor-zero a b =
@@ -53,7 +43,3 @@ module _ (xs ys : List ℕ) (l : length xs ≡ length ys) (i bits : ℕ) (g : Bo
       let k : i ≡ length ys = h ∙ l in
       let d : same (drop i xs) (drop i ys) ≡ true = rw (ap (λ (n : ℕ). drop n xs) h ∙ drop-length xs, ap (λ (n : ℕ). drop n ys) k ∙ drop-length ys) in
       sym (and-true (eqb bits 0) _ d) ∙ e
-    where
-      and-true : (a b : Bool) → b ≡ true → (a && b) ≡ a
-      and-true true b z = z
-      and-true false b z = refl

@@ -14,10 +14,10 @@ use borrow.Author.Tests.{eq-eqb, eqb-true}
 use Rattle.rules.specs.Words.{field, number}
 use Rattle.rules.specs.Shape.{pageSize}
 use Rattle.rules.specs.Header.{same}
-use Rattle.rules.proofs.Bool.{split}
+use Rattle.rules.proofs.Bool.{and-true, split}
+use Rattle.rules.proofs.Zeros.{or-zero}
 use Rattle.words.specs.Loaded.{Loaded}
 use Rattle.words.proofs.Fields.{field-byte, field-join}
-use Rattle.header.proofs.Bits.{or-zero}
 
 -- from place i on a page is zero
 unfoldable pub zeros : List ℕ → ℕ → Bool
@@ -78,7 +78,3 @@ module _ (h : List ℕ) (l : length h ≡ pageSize) where
       let d : drop i h ≡ [] = ap (λ (n : ℕ). drop n h) (m ∙ sym l) ∙ drop-length h in
       let z : zeros h i ≡ true = rw (d, m) in
       sym (and-true (eqb bits 0) (zeros h i) z) ∙ e
-    where
-      and-true : (a b : Bool) → b ≡ true → (a && b) ≡ a
-      and-true true b z = z
-      and-true false b z = refl

@@ -13,6 +13,7 @@ use Rattle.rules.specs.Check.{check}
 use Rattle.rules.specs.Shape.{Shape as PoolShape}
 use Rattle.rules.specs.Staging.{entriesAt, entryBytes}
 use Rattle.rules.specs.Seals.{unsealed}
+use Rattle.rules.proofs.Parts.{take-more}
 use Rattle.rules.proofs.Words.{bytes-drop, digits-word, field-part}
 use Rattle.rules.proofs.Transaction.{entries-count}
 use Rattle.powercut.specs.Log.{checkIn, countIn, logEntries, markIn, sealOf, valid}
@@ -30,9 +31,6 @@ word-part p a = field-part 8 p a ∙ sym (field-part 8 (drop a p) 0)
 
 word-bytes : (p : List ℕ) → Bytes p → (a : ℕ) → a + 8 ≤ length p → digits 8 (word p a) ≡ take 8 (drop a p)
 word-bytes p b a h = ap (digits 8) (word-part p a) ∙ digits-word (drop a p) (bytes-drop a p b) (rw (length-drop a p) (omega arith))
-
-take-more : (p : List ℕ) (a k m : ℕ) → take (k + m) (drop a p) ≡ take k (drop a p) ++ take m (drop (a + k) p)
-take-more p a k m = take-add k m (drop a p) ∙ ap (λ (l : List ℕ). take k (drop a p) ++ take m l) (drop-drop k a p)
 
 pub bytes-read : (p : List ℕ) → Bytes p → (a n : ℕ) → a + 16 * n ≤ length p → entryBytes (entriesAt p a n) ≡ take (16 * n) (drop a p)
 bytes-read p b a zero h = refl

@@ -5,12 +5,13 @@ use mathlib.Core.Logic.{_⊎_, inl, inr, ⊎-elim}
 use mathlib.Core.List.{List, [], _∷_}
 use native.Mathlib.Nat.{add-zero, add-suc, sub-zero}
 use native.Mathlib.Omega.{arith}
-use lib.ListN.{length, take, drop, set, length-set, take-append-drop}
-use lib.Seq.{sets, drop-drop, drop-set-add, length-take-le, set-out, take-take}
+use lib.ListN.{length, take, drop, set, take-append-drop}
+use lib.Seq.{sets, drop-drop, drop-set-add, length-take-le, take-take}
 use Rattle.rules.specs.Words.{digits, field, put, word}
 use Rattle.rules.specs.Staging.{Store, Tidy, touch, touchRange, touchWords, wordCount, wordFrom}
 use Rattle.rules.proofs.Words.{field-part, length-digits}
 use Rattle.rules.proofs.Sets.{drop-sets, drop-take, part-sets-before, sets-append}
+use Rattle.rules.proofs.Parts.{sets-cut, sets-from}
 use Rattle.rules.proofs.Staging.{lay-touch, tidy-touch}
 use Rattle.stage.specs.View.{Reads, Staged, entriesOf, part, seen}
 use Rattle.stage.specs.Touched.{Grown, Room, Touched, added}
@@ -18,17 +19,6 @@ use Rattle.stage.proofs.Counted.{fresh-at, fresh-behind, fresh-first}
 use Rattle.stage.proofs.Touched.{grown-twice, room-count, room-first, room-next}
 use Rattle.overwrite.specs.Range.{RangeFresh, RangeRoom, RangeTouched}
 use Rattle.overwrite.proofs.Updated.{rest-all}
-
--- ---- stores past the end of a list are none
-
-sets-out : (l : List ℕ) (i : ℕ) (vs : List ℕ) → length l ≤ i → sets l i vs ≡ l
-sets-out l i [] h = refl
-sets-out l i (v ∷ vs) h = rw (set-out l i v h) (sets-out l (suc i) vs (omega arith))
-
-pub sets-cut : (k : ℕ) (l : List ℕ) (i : ℕ) (vs : List ℕ) → length l ≤ i + k → sets l i (take k vs) ≡ sets l i vs
-sets-cut zero l i vs h = sym (sets-out l i vs (omega arith))
-sets-cut (suc k) l i [] h = refl
-sets-cut (suc k) l i (v ∷ vs) h = sets-cut k (set l i v) (suc i) vs (rw (length-set l i v) (omega arith))
 
 take-set : (n : ℕ) (l : List ℕ) (i v : ℕ) → take n (set l i v) ≡ set (take n l) i v
 take-set zero l i v = refl
@@ -43,11 +33,6 @@ part-sets n b l o [] = refl
 part-sets n b l o (y ∷ ys) =
     ap (λ (k : ℕ). take n (drop b (sets (set l (b + o) y) k ys))) (sym (add-suc b o)) ∙ part-sets n b (set l (b + o) y) (suc o) ys
     ∙ ap (λ (x : List ℕ). sets x (suc o) ys) (ap (take n) (drop-set-add b l o y) ∙ take-set n (drop b l) o y)
-
-sets-from : (l : List ℕ) (a i : ℕ) (xs : List ℕ) → i ≤ length xs → sets l a xs ≡ sets (sets l a (take i xs)) (a + i) (drop i xs)
-sets-from l a i xs h =
-    ap (sets l a) (sym (take-append-drop i xs)) ∙ sets-append l a (take i xs) (drop i xs)
-    ∙ ap (λ (k : ℕ). sets (sets l a (take i xs)) (a + k) (drop i xs)) (length-take-le i xs h)
 
 word-part : (l : List ℕ) (o : ℕ) → word (part 8 o l) 0 ≡ word l o
 unfolding word part

@@ -13,7 +13,7 @@ use Rattle.rules.proofs.Words.{length-digits}
 use Rattle.sums.specs.Fed.{Fed, Started}
 use Rattle.sums.proofs.Fed.{fed-append, fed-check}
 use Rattle.rules.proofs.Sets.{sets-append}
-use Rattle.pages.proofs.Parts.{part-stored, stored-sets}
+use Rattle.rules.proofs.Parts.{part-stored, stored-sets}
 
 -- kind 1, n cells and body length 0 as one word
 first-word : (n : ℕ) → n < 65536 → digits 8 (1 + 65536 * n) ≡ digits 2 1 ++ digits 2 n ++ digits 4 0

@@ -13,7 +13,7 @@ use Rattle.rules.specs.Shape.{Shape, pageSize, shape}
 use Rattle.rules.specs.Header.{headerBytes, headerFront, letters, version}
 use Rattle.rules.proofs.Words.{length-digits}
 use Rattle.rules.proofs.Sets.{part-sets-before, part-take, sets-append}
-use Rattle.pages.proofs.Parts.{part-all, sets-own}
+use Rattle.rules.proofs.Parts.{part-all, sets-own}
 
 length-front : (sh : Shape) (id : ℕ) → length (headerFront sh id) ≡ 16
 unfolding headerFront

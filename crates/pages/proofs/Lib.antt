@@ -1,4 +1,3 @@
 pub mod Storing
-pub mod Parts
 pub mod Header
 pub mod FreeHead

@@ -16,7 +16,7 @@ use Rattle.rules.specs.Scrub.{columnRight, countTo, sumTo}
 use Rattle.rules.proofs.Shape.{Good, cell-high, cell-self, fits, off-cell, off-lt, row-in, zone-cell}
 use Rattle.rules.proofs.Xor.{xorTo-cong}
 use Rattle.columns.specs.Column.{RowsFit, Word, rowByte, rowWord, rowsZero}
-use Rattle.columns.proofs.Pages.{allTo-cong}
+use Rattle.rules.proofs.Scrub.{all-cong}
 
 -- ---- rows
 
@@ -46,7 +46,7 @@ module _ (sh : Shape) (g : Good sh) (z c : ℕ) (hz : z < sh .zones) (hc : c < s
       → r ≡ rowsZero p at n (sh .rows + 1) (sh .page) → r ≡ columnRight sh p z c
   unfolding rowsZero columnRight
   column-judged p at n r q w e =
-      e ∙ rw (add-one, q, w) (allTo-cong (sh .page) (λ i. eqb (xorTo (suc (sh .rows)) (rowByte p (byteAt sh z 0 (c * sh .page)) (rowSize sh) i)) 0) (λ i. eqb (columnByte sh p z (c * sh .page + i)) 0)
+      e ∙ rw (add-one, q, w) (all-cong (sh .page) (λ i. eqb (xorTo (suc (sh .rows)) (rowByte p (byteAt sh z 0 (c * sh .page)) (rowSize sh) i)) 0) (λ i. eqb (columnByte sh p z (c * sh .page + i)) 0)
       (λ i h. ap (λ (x : ℕ). eqb x 0) (xorTo-cong (suc (sh .rows)) (rowByte p (byteAt sh z 0 (c * sh .page)) (rowSize sh) i) (λ r. getD p (byteAt sh z r (c * sh .page + i)) 0)
       (λ r k. ap (λ (x : ℕ). getD p x 0) (sym (byte-off sh z r (c * sh .page) i))))))
 

@@ -22,3 +22,7 @@ and-false false b e h = refl
 pub or-false : (a b : Bool) → (a || b) ≡ false → (a ≡ false) × (b ≡ false)
 or-false true b e = absurd (let z : _≡_ {A = ℕ} 0 1 = cc in omega arith)
 or-false false b e = (refl, e)
+
+pub and-true : (a b : Bool) → b ≡ true → (a && b) ≡ a
+and-true true b z = z
+and-true false b z = refl

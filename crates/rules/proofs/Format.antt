@@ -37,17 +37,7 @@ use Rattle.rules.proofs.Segments.{free-bytes, length-freeHead}
 use Rattle.rules.proofs.Zones.{Fits, good-fits, zone-length}
 use Rattle.rules.proofs.Header.{range-good, same-refl}
 use Rattle.rules.proofs.Examples.{bench, benchPool}
-
-zeros-at : (n i : ℕ) → _≡_ {A = ℕ} (getD (replicate n 0) i 0) 0
-zeros-at zero i = refl
-zeros-at (suc n) zero = refl
-zeros-at (suc n) (suc i) = zeros-at n i
-
--- zeros behind a list read as nothing
-then-zeros : (l : List ℕ) (n i : ℕ) → getD (l ++ replicate n 0) i 0 ≡ getD l i 0
-then-zeros [] n i = zeros-at n i
-then-zeros (x ∷ l) n zero = refl
-then-zeros (x ∷ l) n (suc i) = then-zeros l n i
+use Rattle.rules.proofs.Zeros.{then-zeros, zeros-at}
 
 past-end : (l : List ℕ) (i : ℕ) → length l ≤ i → _≡_ {A = ℕ} (getD l i 0) 0
 past-end [] i h = refl

@@ -7,6 +7,8 @@ pub mod Test
 pub mod Xor
 pub mod Words
 pub mod Sets
+pub mod Parts
+pub mod Zeros
 pub mod Shape
 pub mod Stores
 pub mod Repair

@@ -57,6 +57,12 @@ tab-at k zero f i h = absurd (not-suc-le-zero h)
 tab-at k (suc n) f zero h = ap f (omega arith)
 tab-at k (suc n) f (suc i) h = tab-at (suc k) n f i (le-of-suc-le-suc h) ∙ ap f (omega arith)
 
+pub tab-cong : (n : ℕ) (f g : ℕ → ℕ) → ((i : ℕ) → i < n → f i ≡ g i) → tabFrom 0 n f ≡ tabFrom 0 n g
+tab-cong n f g h =
+    ext-getD 0 (tabFrom 0 n f) (tabFrom 0 n g) (tab-length 0 n f ∙ sym (tab-length 0 n g))
+    (λ i l. let j : i < n = rw (tab-length 0 n f) at l in
+    tab-at 0 n f i j ∙ rw (zero-add i) (h i j) ∙ sym (tab-at 0 n g i j ∙ ap g (zero-add i)))
+
 -- q is p but for lost pages, at most one a column, whatever they hold: the pool repaired is p, whole
 abbrev pub Restores : Shape → Type 0
 Restores sh =

@@ -1,7 +1,7 @@
 -- Scrub of a sound pool: as many objects as the book lists, and no other count (`sound-scrub`). And the other way round: where the counts
 -- say so, no zone is broken, no object damaged and all parity right (`scrub-good`, `scrub-parity`).
 use Prim.Native.Nat.{ℕ, zero, suc, _+_, _*_, _/_, _%_, _≤_, _<_}
-use mathlib.Core.Path.{_≡_, refl, sym, ap, _∙_}
+use mathlib.Core.Path.{_≡_, refl, sym, ap, ap₂, _∙_}
 use mathlib.Core.Logic.{_⊎_, inl, inr}
 use mathlib.Core.Bool.{Bool, true, false, not, _&&_, cond}
 use mathlib.Core.List.{List, [], _∷_, _++_}
@@ -83,6 +83,11 @@ pub true-all : (n : ℕ) (f : ℕ → Bool) → ((i : ℕ) → i < n → f i ≡
 unfolding allTo
 true-all zero f h = refl
 true-all (suc n) f h = and-join (allTo n f) (f n) (true-all n f (λ i l. h i (omega arith))) (h n (omega arith))
+
+pub all-cong : (n : ℕ) (f g : ℕ → Bool) → ((i : ℕ) → i < n → f i ≡ g i) → allTo n f ≡ allTo n g
+unfolding allTo
+all-cong zero f g h = refl
+all-cong (suc n) f g h = ap₂ _&&_ (all-cong n f g (λ i l. h i (omega arith))) (h n (omega arith))
 
 -- ---- parity
 

@@ -98,7 +98,7 @@ module _ (sh : Shape) (g : Good sh) where
   pub cell-in : (z r o : ℕ) → z < sh .zones → r ≤ sh .rows → o < rowSize sh → o % 8 ≡ 0 → InZones sh (byteAt sh z r o)
   cell-in z r o hz hr ho e = record { low = cell-low z r o; high = cell-high z r o hz hr ho; even = cell-mod z r o ∙ e }
 
-  size-even : poolSize sh % 8 ≡ 0
+  pub size-even : poolSize sh % 8 ≡ 0
   size-even =
       ap (λ (y : ℕ). y % 8) (size-eq ∙ omega arith ∙ cell-units (sh .zones * (sh .rows + 1)) 0)
       ∙ mul-add-mod-self-right (18 * (sh .page / 8) + sh .zones * (sh .rows + 1) * (sh .cols * (sh .page / 8))) 8 0
@@ -167,9 +167,6 @@ module _ (sh : Shape) (g : Good sh) where
   pub zone-end : zoneAt sh (sh .zones) ≡ poolSize sh
   unfolding zoneAt
   zone-end = sym (size-eq sh g ∙ omega arith)
-
-  pub size-words : poolSize sh % 8 ≡ 0
-  size-words = ap (λ (x : ℕ). x % 8) (sym zone-end) ∙ zone-even (sh .zones)
 
   cell-of : (z d m i : ℕ) → d * rowSize sh + m ≡ i → zoneAt sh z + i ≡ byteAt sh z d m
   unfolding zoneAt byteAt

@@ -17,7 +17,7 @@ use Rattle.rules.specs.Zones.{zoneData}
 use Rattle.rules.specs.Staging.{Store, touch, touchRange, touchWords, wordCount, wordFrom}
 use Rattle.rules.proofs.Bool.{split}
 use Rattle.rules.proofs.Sets.{part-sets-before, part-sets-behind, part-sets-in}
-use Rattle.rules.proofs.Shape.{Good, size-words, zone-cells, zone-end, zone-even}
+use Rattle.rules.proofs.Shape.{Good, size-even, zone-cells, zone-end, zone-even}
 use Rattle.rules.proofs.Laid.{Laid}
 use Rattle.rules.proofs.Book.{AllGood}
 
@@ -39,7 +39,7 @@ good-fits s v g l h = record {
   wide = omega (arith, zone-cells s g);
   even = zone-even s g;
   long = omega (arith, zone-end s g);
-  words = ap (λ (x : ℕ). x % 8) l ∙ size-words s g;
+  words = ap (λ (x : ℕ). x % 8) l ∙ size-even s g;
 }
 
 pub zone-in : (s : Shape) (v : List ℕ) (z : ℕ) → Fits s v → z < s .zones → zoneAt s z + 64 * zoneCells s ≤ length v

@@ -13,7 +13,7 @@ use Rattle.rules.specs.Shape.{Shape, poolSize}
 use Rattle.rules.specs.Staging.{Fresh, Store, Tidy, entriesAt, goodTarget, goodTargets, lay, noneAt}
 use Rattle.rules.proofs.Bool.{and-split, split}
 use Rattle.rules.proofs.Words.{bytes-drop, digits-word, field-part, length-put, word-lt, word-put, word-put-other}
-use Rattle.rules.proofs.Shape.{Good, size-words}
+use Rattle.rules.proofs.Shape.{Good, size-even}
 use Rattle.rules.proofs.Stores.{bytes-lay, length-lay}
 use Rattle.stage.specs.View.{Reads, Staged, entriesOf, part, seen}
 use Rattle.words.specs.Loaded.{Loaded}
@@ -96,4 +96,4 @@ good-tidy sh st a (suc n) b e =
 pub staged-good : (sh : Shape) (pool st : List ℕ) (n : ℕ) → Bytes st → goodTargets sh (entriesAt st 0 n) ≡ true → length pool ≡ poolSize sh → Good sh → 16 * n ≤ length st
     → Staged pool st n
 unfolding entriesOf
-staged-good sh pool st n b e l g h = record { room = h; tidy = good-tidy sh st 0 n b e; words = rw l (size-words sh g) }
+staged-good sh pool st n b e l g h = record { room = h; tidy = good-tidy sh st 0 n b e; words = rw l (size-even sh g) }

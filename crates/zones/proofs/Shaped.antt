@@ -6,7 +6,7 @@ use native.Mathlib.Nat.{div-lt-iff-lt-mul, mod-lt, mul-le-mul, mul-le-mul-right,
 use native.Mathlib.Omega.{arith}
 use lib.ListN.{length}
 use Rattle.rules.specs.Shape.{poolSize, zoneAt, zoneCells, zoneSize}
-use Rattle.rules.proofs.Shape.{size-words, zone-cells, zone-end, zone-even}
+use Rattle.rules.proofs.Shape.{size-even, zone-cells, zone-end, zone-even}
 use Rattle.layout.specs.Reading.{InRange, Shaped, shapeOf}
 use Rattle.layout.specs.declared.Shape.{Shape}
 use Rattle.layout.proofs.Range.{bounds, shape-good}
@@ -43,4 +43,4 @@ module _ (s : Shape) (r : InRange (shapeOf s)) where
 -- no entries
 pub staged-none : (s : Shape) {p : List ℕ} → Shaped p (shapeOf s) → (st : List ℕ) → Staged p st 0
 unfolding entriesOf
-staged-none s g st = record { room = omega arith; tidy = tt; words = rw (g .size) (size-words (shapeOf s) (shape-good s (g .range))) }
+staged-none s g st = record { room = omega arith; tidy = tt; words = rw (g .size) (size-even (shapeOf s) (shape-good s (g .range))) }

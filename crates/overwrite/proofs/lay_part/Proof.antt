@@ -4,7 +4,7 @@ use mathlib.Core.Path.{sym, _∙_}
 use Prim.Native.Nat.{_-_}
 use lib.ListN.{length}
 use lib.Seq.{length-take-le}
-use Rattle.overwrite.proofs.Ranging.{sets-cut}
+use Rattle.rules.proofs.Parts.{sets-cut}
 use borrow.Author.Needs.{needs}
 use Rattle.overwrite.proofs.lay_part.Statement.{statement}
 use Rattle.overwrite.proofs.lay_part.Tie as tie

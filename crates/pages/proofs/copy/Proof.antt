@@ -2,7 +2,7 @@
 use Prim.Native.Nat.{_-_}
 use mathlib.Core.Path.{refl}
 use lib.ListN.{take, drop}
-use Rattle.pages.proofs.Parts.{part-length}
+use Rattle.rules.proofs.Parts.{part-length}
 use Rattle.pages.proofs.Storing.{Storing, storing-start, storing-step, storing-end, copy-byte}
 use borrow.Author.Needs.{needs}
 use native.Mathlib.Omega.{arith}

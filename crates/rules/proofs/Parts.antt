@@ -1,15 +1,19 @@
 -- Laws of parts and stores: what a part of a store holds, and a store within a store. Assumes nothing.
-use Prim.Native.Nat.{ℕ, _+_, _≤_}
-use mathlib.Core.Path.{_≡_, sym, ap, _∙_}
-use mathlib.Core.List.{List, _++_, append-assoc}
+use Prim.Native.Nat.{ℕ, zero, suc, _+_, _≤_}
+use mathlib.Core.Path.{_≡_, refl, sym, ap, _∙_}
+use mathlib.Core.List.{List, [], _∷_, _++_, append-assoc}
 use native.Mathlib.Nat.{add-zero}
 use native.Mathlib.Omega.{arith}
-use lib.ListN.{length, take, drop, length-drop, take-append-drop}
-use lib.Seq.{sets, sets-eq, length-sets, length-take-le, take-all, take-append-le, drop-append-le, drop-at, drop-drop}
-use Rattle.rules.proofs.Sets.{sets-mid}
+use lib.ListN.{length, take, drop, set, length-drop, length-set, take-append-drop}
+use lib.Seq.{sets, sets-eq, length-sets, length-take-le, take-all, take-append-le, drop-append-le, drop-at, drop-drop, set-out, take-add}
+use Rattle.rules.proofs.Sets.{sets-append, sets-mid}
 
 pub part-length : (l : List ℕ) (a n : ℕ) → a + n ≤ length l → length (take n (drop a l)) ≡ n
 part-length l a n h = length-take-le n (drop a l) (rw (length-drop a l) (omega arith))
+
+-- a part, longer by as much
+pub take-more : (p : List ℕ) (a k m : ℕ) → take (k + m) (drop a p) ≡ take k (drop a p) ++ take m (drop (a + k) p)
+take-more p a k m = take-add k m (drop a p) ∙ ap (λ (l : List ℕ). take k (drop a p) ++ take m l) (drop-drop k a p)
 
 -- the bytes vs stored from a on, between those before and those behind
 stored : (l : List ℕ) (a : ℕ) (vs : List ℕ) → a + length vs ≤ length l → sets l a vs ≡ take a l ++ (vs ++ drop (a + length vs) l)
@@ -47,3 +51,20 @@ sets-own l a n h =
 pub part-all : (l : List ℕ) (a : ℕ) (vs : List ℕ) (n : ℕ) → length vs ≡ n → a + n ≤ length l → take n (drop a (sets l a vs)) ≡ vs
 part-all l a vs n e h =
     ap (λ (k : ℕ). take n (drop k (sets l a vs))) (sym (add-zero a)) ∙ part-stored l a vs 0 n (omega arith) (omega arith) ∙ take-all n vs (omega arith)
+
+-- ---- stores past the end of a list are none
+
+sets-out : (l : List ℕ) (i : ℕ) (vs : List ℕ) → length l ≤ i → sets l i vs ≡ l
+sets-out l i [] h = refl
+sets-out l i (v ∷ vs) h = rw (set-out l i v h) (sets-out l (suc i) vs (omega arith))
+
+pub sets-cut : (k : ℕ) (l : List ℕ) (i : ℕ) (vs : List ℕ) → length l ≤ i + k → sets l i (take k vs) ≡ sets l i vs
+sets-cut zero l i vs h = sym (sets-out l i vs (omega arith))
+sets-cut (suc k) l i [] h = refl
+sets-cut (suc k) l i (v ∷ vs) h = sets-cut k (set l i v) (suc i) vs (rw (length-set l i v) (omega arith))
+
+-- a store in two parts
+pub sets-from : (l : List ℕ) (a i : ℕ) (xs : List ℕ) → i ≤ length xs → sets l a xs ≡ sets (sets l a (take i xs)) (a + i) (drop i xs)
+sets-from l a i xs h =
+    ap (sets l a) (sym (take-append-drop i xs)) ∙ sets-append l a (take i xs) (drop i xs)
+    ∙ ap (λ (k : ℕ). sets (sets l a (take i xs)) (a + k) (drop i xs)) (length-take-le i xs h)

@@ -1,11 +1,12 @@
 -- `log::valid` meets its contract. Assumes nothing.
+use Rattle.log.proofs.Places.{log-room}
 use Rattle.log.proofs.Logs.{valid-check, valid-high, valid-low, valid-mark, valid-rest}
 use borrow.Author.Needs.{needs}
 use Rattle.log.proofs.valid.Statement.{statement}
 use Rattle.log.proofs.valid.Tie as tie
 
 load64-requires : tie.Need-load64-requires
-load64-requires c κs = search needs
+load64-requires c κs = let a = c .before in let h = log-room (a .args .s) _ (a .pre .0) _ (a .pre .1) in search needs
 
 count-requires : tie.Need-count-requires
 count-requires c κs = search needs
@@ -20,10 +21,10 @@ returns-3 : tie.Need-returns-3
 returns-3 c = search (needs, valid-high)
 
 add-check-entries : tie.Need-add-check-entries
-add-check-entries c = search needs
+add-check-entries c = let a = c .before .before .before .before .before .before in let h = log-room (a .args .s) _ (a .pre .0) _ (a .pre .1) in search needs
 
 check-entries-requires : tie.Need-check-entries-requires
-check-entries-requires c κs = search needs
+check-entries-requires c κs = let a = c .before .before .before .before .before .before in let h = log-room (a .args .s) _ (a .pre .0) _ (a .pre .1) in search needs
 
 cast-if4 : tie.Need-cast-if4
 cast-if4 c = search needs
@@ -32,10 +33,10 @@ returns-4 : tie.Need-returns-4
 returns-4 c = search (needs, valid-check)
 
 add-targets-fit : tie.Need-add-targets-fit
-add-targets-fit c = search needs
+add-targets-fit c = let a = c .before .before .before .before .before .before .before .before in let h = log-room (a .args .s) _ (a .pre .0) _ (a .pre .1) in search needs
 
 targets-fit-requires : tie.Need-targets-fit-requires
-targets-fit-requires c κs = search needs
+targets-fit-requires c κs = let a = c .before .before .before .before .before .before .before .before in let h = log-room (a .args .s) _ (a .pre .0) _ (a .pre .1) in search needs
 
 returns-5 : tie.Need-returns-5
 returns-5 c = search (needs, valid-rest)

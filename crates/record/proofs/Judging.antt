@@ -20,7 +20,7 @@ use Rattle.layout.specs.declared.Shape.{Shape}
 use Rattle.layout.specs.declared.Opened.the-variants as Opening
 use Rattle.layout.specs.Reading.{Shaped, answer, opened, shapeOf}
 use Rattle.layout.proofs.Range.{shape-good}
-use Rattle.layout.proofs.Opening.{answer-good, answer-refused, open-good, open-passed, open-refused, open-shaped, passed-open, shaped-room}
+use Rattle.layout.proofs.Opening.{answer-good, answer-refused, open-good, open-passed, open-refused, open-shaped, passed-open}
 use Rattle.log.specs.Targets.{allFit, read}
 use Rattle.log.proofs.Targets.{all-fit-is}
 use Rattle.stage.proofs.View.{staged-good}
@@ -179,9 +179,6 @@ module _ (p st : List ℕ) (n : ℕ) (f : Code.Phase) {s : Shape} (e : answer (f
       record { shaped = record-shaped; staged = staged-good (shapeOf s) p st n b (k .2) (record-shaped .size) (shape-good s (record-shaped .range)) h; few = k .0; room = r }
 
   -- ---- then 29, 21
-
-  pub seals-room : 4608 ≤ length p
-  seals-room = shaped-room p s record-shaped
 
   judged : first (recordTests (given p st n f) ++ liveTests (given p st n f)) ≡ first (liveTests (given p st n f))
   judged = first-right (recordTests (given p st n f)) (liveTests (given p st n f)) record-passed

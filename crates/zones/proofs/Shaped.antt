@@ -3,14 +3,13 @@ use Prim.Native.Nat.{ℕ, _*_, _/_, _%_, _≤_, _<_}
 use mathlib.Core.Path.{_≡_, sym, _∙_}
 use mathlib.Core.List.{List}
 use native.Mathlib.Nat.{div-lt-iff-lt-mul, mod-lt, mul-le-mul, mul-le-mul-right, mul-pos}
-use Rattle.rules.proofs.Header.{range-ranged}
 use native.Mathlib.Omega.{arith}
 use lib.ListN.{length}
-use Rattle.rules.specs.Shape.{poolSize, zoneAt, zoneCells, zoneSize}
+use Rattle.rules.specs.Shape.{cellSize, poolSize, zoneAt, zoneCells, zoneSize}
 use Rattle.rules.proofs.Shape.{size-words, zone-cells, zone-end, zone-even}
 use Rattle.layout.specs.Reading.{InRange, Shaped, shapeOf}
 use Rattle.layout.specs.declared.Shape.{Shape}
-use Rattle.layout.proofs.Range.{shape-good}
+use Rattle.layout.proofs.Range.{bounds, shape-good}
 use Rattle.stage.specs.View.{Staged, entriesOf}
 use Rattle.runs.specs.Rest.{Zoned}
 use Rattle.zones.specs.Found.{ZoneIs}
@@ -28,10 +27,13 @@ module _ (s : Shape) (r : InRange (shapeOf s)) where
 
   pub cells-some : 1 ≤ zoneCells (shapeOf s)
   unfolding zoneCells
-  cells-some = omega (arith, mul-pos (shape-good s r .rows-pos) (shape-good s r .cols-pos))
+  cells-some =
+      let g = shape-good s r in
+      let k : 0 < s .page / cellSize = omega (arith, g .page-min) in
+      mul-pos (mul-pos (g .rows-pos) (g .cols-pos)) k
 
   pub address-bound : s .zones * zoneCells (shapeOf s) ≤ 16 * 65536
-  address-bound = let b : zoneCells (shapeOf s) ≤ 65536 = omega (arith, shape-good s r .runs) in mul-le-mul (range-ranged (shapeOf s) r .zones-high) b
+  address-bound = let b : zoneCells (shapeOf s) ≤ 65536 = omega (arith, shape-good s r .runs) in mul-le-mul (bounds s r .zones-high) b
 
   pub address-zone : {a n : ℕ} → n ≡ zoneCells (shapeOf s) → a < s .zones * n → a / n < s .zones
   address-zone {a} {n} e h = let k : 0 < n = rw e cells-some in div-lt-iff-lt-mul k .1 h

@@ -1,5 +1,5 @@
 -- `commit::step` meets its contract. Assumes nothing.
-use Rattle.record.proofs.Judging.{record-shaped, seals-room}
+use Rattle.record.proofs.Judging.{record-shaped}
 use Rattle.commit.proofs.Committing.{step-closed, step-made, step-open, step-ready, step-sealed, step-within}
 use borrow.Author.Needs.{needs}
 use Rattle.commit.proofs.step.Statement.{statement}
@@ -15,7 +15,7 @@ enum-known-phase : tie.Need-enum-known-phase
 enum-known-phase c = search needs
 
 sealed-requires : tie.Need-sealed-requires
-sealed-requires c κs = let s = c .before .before .before .before .before .before in seals-room (s .args .pool .now) (s .args .staging .now) (s .args .count) (s .args .phase) (s .pre)
+sealed-requires c κs = let s = c .before .before .before .before .before .before in record-shaped (s .args .pool .now) (s .args .staging .now) (s .args .count) (s .args .phase) (s .pre)
 
 same-length : tie.Need-same-length
 same-length c = search needs

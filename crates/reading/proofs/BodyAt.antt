@@ -1,5 +1,5 @@
 -- The body of the object at an address. Assumes nothing.
-use Prim.Native.Nat.{ℕ, _+_, _*_, _≤_, _<_}
+use Prim.Native.Nat.{ℕ, _+_, _*_, _^_, _≤_, _<_}
 use mathlib.Core.Path.{_≡_}
 use mathlib.Core.Option.{some}
 use mathlib.Core.List.{List}
@@ -37,7 +37,7 @@ module _ (s : Shape) {p : List ℕ} (g : Shaped p (shapeOf s)) where
         pub body-within : h + 16 + m ≤ length p
         body-within = rw z (named-end named)
 
-        pub body-low : h + 16 + m ≤ 4198912
+        pub body-low : h + 16 + m < 2 ^ 32
         body-low = let b = size-bounds s (g .range) in omega (arith, body-within, g .size, b)
 
         pub body-found : part (h + 16) m ≡ lookIn (shapeOf s) p a

@@ -1,6 +1,5 @@
 -- `log::seals_zero` meets its contract. Assumes nothing.
-use Rattle.powercut.specs.Log.{fromA, fromB}
-use Rattle.log.proofs.Places.{log-room}
+use Rattle.log.proofs.Places.{at-log-a, at-log-b, log-room}
 use Rattle.log.proofs.Logs.{seal-first, seal-second}
 use native.Mathlib.Omega.{arith}
 use borrow.Author.Needs.{needs}
@@ -14,13 +13,13 @@ log-b-requires : tie.Need-log-b-requires
 log-b-requires c κs = search needs
 
 load64-requires : tie.Need-load64-requires
-load64-requires c κs = let a = c .before .before .before in omega (arith, log-room (a .args .s) _ (a .pre) _ (record { log = fromA; place = c .before .log-a .ensures }))
+load64-requires c κs = let a = c .before .before .before in omega (arith, log-room (a .args .s) _ (a .pre) _ (at-log-a (c .before .log-a .ensures)))
 
 returns : tie.Need-returns
 returns c = search (needs, seal-first)
 
 load64-requires-2 : tie.Need-load64-requires-2
-load64-requires-2 c κs = let a = c .before .before .before .before .before in omega (arith, log-room (a .args .s) _ (a .pre) _ (record { log = fromB; place = c .before .before .log-b .ensures }))
+load64-requires-2 c κs = let a = c .before .before .before .before .before in omega (arith, log-room (a .args .s) _ (a .pre) _ (at-log-b (c .before .before .log-b .ensures)))
 
 returns-2 : tie.Need-returns-2
 returns-2 c =

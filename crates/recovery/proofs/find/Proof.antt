@@ -1,7 +1,6 @@
 -- `recovery::find` meets its contract. Assumes nothing.
 use native.Mathlib.Omega.{arith}
-use Rattle.powercut.specs.Log.{fromA, fromB}
-use Rattle.log.proofs.Places.{log-room}
+use Rattle.log.proofs.Places.{at-log-a, at-log-b, log-room}
 use Rattle.recovery.proofs.Starting.{find-a, find-b, find-neither, find-nothing, find-only-a, find-only-b}
 use borrow.Author.Needs.{needs}
 use Rattle.recovery.proofs.find.Statement.{statement}
@@ -14,13 +13,13 @@ log-b-requires : tie.Need-log-b-requires
 log-b-requires c κs = search needs
 
 load64-requires : tie.Need-load64-requires
-load64-requires c κs = let a = c .before .before .before in omega (arith, log-room (a .args .s) _ (a .pre) _ (record { log = fromA; place = c .before .log-a .ensures }))
+load64-requires c κs = let a = c .before .before .before in omega (arith, log-room (a .args .s) _ (a .pre) _ (at-log-a (c .before .log-a .ensures)))
 
 load64-requires-2 : tie.Need-load64-requires-2
-load64-requires-2 c κs = let a = c .before .before .before .before in omega (arith, log-room (a .args .s) _ (a .pre) _ (record { log = fromB; place = c .before .log-b .ensures }))
+load64-requires-2 c κs = let a = c .before .before .before .before in omega (arith, log-room (a .args .s) _ (a .pre) _ (at-log-b (c .before .log-b .ensures)))
 
 valid-requires : tie.Need-valid-requires
-valid-requires c κs = (c .before .before .before .before .before .pre, record { log = fromA; place = c .before .before .before .log-a .ensures })
+valid-requires c κs = search (needs, at-log-a, at-log-b)
 
 count-requires : tie.Need-count-requires
 count-requires c κs = search needs
@@ -29,7 +28,7 @@ returns : tie.Need-returns
 returns c = search (needs, find-a)
 
 valid-requires-2 : tie.Need-valid-requires-2
-valid-requires-2 c κs = (c .before .before .before .before .before .before .before .pre, record { log = fromB; place = c .before .before .before .before .log-b .ensures })
+valid-requires-2 c κs = search (needs, at-log-a, at-log-b)
 
 count-requires-2 : tie.Need-count-requires-2
 count-requires-2 c κs = search needs

@@ -3,6 +3,7 @@ use mathlib.Core.Path.{refl}
 use Rattle.powercut.specs.Log.{fromA, fromB}
 use Rattle.powercut.specs.Steps.{neither, nothing, recoverySteps}
 use Rattle.recovery.specs.declared.Next.the-variants.{Impossible, Make}
+use Rattle.log.proofs.Places.{at-log-a, at-log-b}
 use Rattle.recovery.proofs.Stepping.{clear-made, clear-past, empty-past, next-of}
 use borrow.Author.Needs.{needs}
 use Rattle.recovery.proofs.next_step.Statement.{statement}
@@ -15,7 +16,7 @@ log-a-requires : tie.Need-log-a-requires
 log-a-requires c κs = search needs
 
 replay-step-requires : tie.Need-replay-step-requires
-replay-step-requires c κs = (search needs, record { log = fromA; place = c .log-a .ensures })
+replay-step-requires c κs = search (needs, at-log-a)
 
 enum-known-work-2 : tie.Need-enum-known-work-2
 enum-known-work-2 c = search needs
@@ -24,7 +25,7 @@ log-b-requires : tie.Need-log-b-requires
 log-b-requires c κs = search needs
 
 replay-step-requires-2 : tie.Need-replay-step-requires-2
-replay-step-requires-2 c κs = (search needs, record { log = fromB; place = c .log-b .ensures })
+replay-step-requires-2 c κs = search (needs, at-log-b)
 
 enum-told : tie.Need-enum-told
 enum-told c = search needs

@@ -5,7 +5,7 @@ use mathlib.Core.Bool.{Bool, true, false}
 use mathlib.Core.List.{List}
 use borrow.Author.Tests.{eq-eqb, ne-eqb}
 use Rattle.rules.specs.Shape.{logA, logB}
-use Rattle.rules.specs.Header.{openTests, shapeIn}
+use Rattle.rules.specs.Header.{openTests}
 use Rattle.rules.proofs.Test.{passed-first}
 use Rattle.powercut.specs.Log.{countIn, valid}
 use Rattle.powercut.specs.Steps.{remedy}

@@ -1,16 +1,16 @@
 -- Pages in exclusive or, one more byte and one more row at a time; bytes judged zero. Assumes nothing.
-use Prim.Native.Nat.{ℕ, zero, suc, _+_, _*_, _≤_, _<_}
+use Prim.Native.Nat.{ℕ, zero, suc, _+_, _-_, _*_, _≤_, _<_}
 use mathlib.Core.Path.{_≡_, refl, sym, ap, ap₂, _∙_}
 use mathlib.Core.Bool.{Bool, _&&_}
-use mathlib.Core.List.{List, _∷_}
+use mathlib.Core.List.{List, _∷_, _++_}
 use native.Mathlib.Nat.{zero-add}
 use native.Mathlib.Numerals.{add-one}
 use native.Mathlib.Omega.{arith}
 use borrow.Author.Tests.{eq-eqb, eqb-true, eqb-false, ne-eqb}
 use lib.Bits.{bitOr, bitXor, and-le-r, or-add-and, or-zero-l, xor-zero-r}
 use lib.Dec.{eqb}
-use lib.ListN.{length, take, getD, replicate}
-use lib.Seq.{ext-getD, length-take-le}
+use lib.ListN.{length, take, drop, getD, replicate, length-append, length-replicate, replicate-append-replicate}
+use lib.Seq.{ext-getD, length-take-le, take-at}
 use Rattle.rules.specs.Parity.{skip, xorTo}
 use Rattle.rules.specs.Repair.{tabFrom}
 use Rattle.rules.specs.Scrub.{allTo}
@@ -69,6 +69,36 @@ module _ (p : List ℕ) (at stride l n : ℕ) where
   pub pages-out : {k : ℕ} → k ≡ l → tabFrom 0 n (otherByte p at stride k l) ≡ tabFrom 0 n (otherByte p at stride (k + 1) l)
   unfolding otherByte xorTo
   pages-out {k} e = rw (add-one k) (tab-cong n _ _ (λ i h. rw (eq-eqb l k (sym e)) (sym (xor-zero-r (xorTo k (skip l (rowByte p at stride i)))))))
+
+-- ---- the front of a buffer of m zeros, n bytes of it
+
+-- as many bytes fit as well
+pub same-room : (a n k l : ℕ) → k ≡ n → a + n ≤ l → a + k ≤ l
+same-room a n k l e h = omega arith
+
+module _ (n m : ℕ) (h : n ≤ m) where
+  pub front-length : length (take n (replicate {A = ℕ} m 0)) ≡ n
+  front-length = length-take-le n (replicate m 0) (rw length-replicate h)
+
+  pub front-zeros : take n (replicate {A = ℕ} m 0) ≡ replicate (length (take n (replicate {A = ℕ} m 0))) 0
+  front-zeros =
+      let e : m ≡ n + (m - n) = omega arith in
+      ap (λ (x : ℕ). take n (replicate {A = ℕ} x 0)) e ∙ ap (take {A = ℕ} n) (sym (replicate-append-replicate {A = ℕ} n (m - n) 0))
+      ∙ take-at (replicate n 0) (replicate (m - n) 0) n (length-replicate n 0) ∙ ap (λ (x : ℕ). replicate x 0) (sym front-length)
+
+  -- other bytes in its place
+  module _ (s : List ℕ) (e : length s ≡ length (take n (replicate {A = ℕ} m 0))) where
+    pub front-fits : n ≤ length (s ++ drop n (replicate m 0))
+    front-fits = rw (length-append s (drop n (replicate m 0))) (let l = e ∙ front-length in omega arith)
+
+    front-left : take n (s ++ drop n (replicate m 0)) ≡ s
+    front-left = take-at s (drop n (replicate m 0)) n (e ∙ front-length)
+
+    pub front-count : length (take n (s ++ drop n (replicate m 0))) ≡ n
+    front-count = ap length front-left ∙ e ∙ front-length
+
+    pub front-filled : (f : ℕ → ℕ) → s ≡ tabFrom 0 (length (take n (replicate {A = ℕ} m 0))) f → take n (s ++ drop n (replicate m 0)) ≡ tabFrom 0 n f
+    front-filled f q = front-left ∙ q ∙ ap (λ (x : ℕ). tabFrom 0 x f) front-length
 
 -- ---- bytes judged zero
 

@@ -7,9 +7,7 @@ ghost use Rattle.rules.specs.Shape.{pageSize};
 ghost use Rattle.rules.specs.Parity.{xorTo};
 ghost use Rattle.rules.specs.Repair.{tabFrom};
 ghost use Rattle.columns.specs.Column.{RowsFit, Word, otherByte, rowWord, rowsZero, xored, zeros};
-
-// Bytes of a page.
-const PAGE: usize = 256;
+use layout::Shape;
 
 // The exclusive or of the words at `at` in all rows.
 pub fn xor_rows(pool: &[u8], at: usize, stride: usize, rows: usize) -> u64
@@ -35,8 +33,8 @@ fn xor_page(sum: &mut [u8], pool: &[u8], at: usize)
 
 // `sum`, zero at first, becomes the exclusive or of the pages at `at` in all rows but the one left out.
 fn xor_pages(sum: &mut [u8], pool: &[u8], at: usize, stride: usize, rows: usize, without: usize)
-    requires { ⌜ (now sum ≡ replicate pageSize 0) × (RowsFit (now pool) at stride rows pageSize) ⌝ }
-    ensures { λ _. ⌜ now (sum .exit) ≡ tabFrom 0 pageSize (otherByte (now (pool .entry)) at stride rows without) ⌝ }
+    requires { ⌜ (now sum ≡ replicate (length (now sum)) 0) × (RowsFit (now pool) at stride rows (length (now sum))) ⌝ }
+    ensures { λ _. ⌜ now (sum .exit) ≡ tabFrom 0 (length (now (sum .entry))) (otherByte (now (pool .entry)) at stride rows without) ⌝ }
 {
     for k in 0..rows {
         if k != without {
@@ -57,21 +55,28 @@ fn all_zero(s: &[u8]) -> bool
 }
 
 // The lost row's page becomes the exclusive or of the other rows' pages.
-pub fn rebuild_page(pool: &mut [u8], at: usize, stride: usize, rows: usize, lost: usize)
-    requires { ⌜ (RowsFit (now pool) at stride rows pageSize) × (lost < rows) ⌝ }
-    ensures { λ _. ⌜ now (pool .exit) ≡ sets (now (pool .entry)) (at + lost * stride) (tabFrom 0 pageSize (otherByte (now (pool .entry)) at stride rows lost)) ⌝ }
+pub fn rebuild_page(
+    pool: &mut [u8],
+    at: usize,
+    stride: usize,
+    rows: usize,
+    lost: usize,
+    page: usize,
+)
+    requires { ⌜ (RowsFit (now pool) at stride rows page) × (lost < rows) × (page ≤ pageSize) ⌝ }
+    ensures { λ _. ⌜ now (pool .exit) ≡ sets (now (pool .entry)) (at + lost * stride) (tabFrom 0 page (otherByte (now (pool .entry)) at stride rows lost)) ⌝ }
 {
-    let mut sum = [0u8; PAGE];
-    xor_pages(&mut sum, pool, at, stride, rows, lost);
-    pages::store(pool, at + lost * stride, &sum);
+    let mut sum = [0u8; Shape::PAGE];
+    xor_pages(&mut sum[..page], pool, at, stride, rows, lost);
+    pages::store(pool, at + lost * stride, &sum[..page]);
 }
 
 // Whether the exclusive or of the rows' pages is zero at every byte.
-pub fn page_right(pool: &[u8], at: usize, stride: usize, rows: usize) -> bool
-    requires { ⌜ RowsFit (now pool) at stride rows pageSize ⌝ }
-    ensures { λ r. ⌜ r ≡ rowsZero (now (pool .entry)) at stride rows pageSize ⌝ }
+pub fn page_right(pool: &[u8], at: usize, stride: usize, rows: usize, page: usize) -> bool
+    requires { ⌜ (RowsFit (now pool) at stride rows page) × (page ≤ pageSize) ⌝ }
+    ensures { λ r. ⌜ r ≡ rowsZero (now (pool .entry)) at stride rows page ⌝ }
 {
-    let mut sum = [0u8; PAGE];
-    xor_pages(&mut sum, pool, at, stride, rows, rows);
-    all_zero(&sum)
+    let mut sum = [0u8; Shape::PAGE];
+    xor_pages(&mut sum[..page], pool, at, stride, rows, rows);
+    all_zero(&sum[..page])
 }

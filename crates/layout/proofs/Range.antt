@@ -19,6 +19,10 @@ use Rattle.layout.specs.Reading.{InRange, checked, good, madeOf, refused
 pub shape-good : (s : Shape) → InRange (shapeOf s) → Good (shapeOf s)
 shape-good s r = range-good (shapeOf s) (r .paged) (r .ranged)
 
+-- the largest page
+pub page-most : (s : Shape) → InRange (shapeOf s) → s .page ≤ pageSize
+page-most s r = let e = r .paged in omega arith
+
 -- ---- what the numbers of a shape in range amount to
 
 pub record Bounds (page rows cols zones : ℕ) : Type 0 where

@@ -3,7 +3,7 @@ use Prim.Native.Nat.{ℕ, suc, _+_, _-_, _*_, _/_, _%_, _≤_, _<_}
 use mathlib.Core.Path.{_≡_, sym, ap, _∙_}
 use mathlib.Core.Bool.{Bool, true, false}
 use mathlib.Core.List.{List}
-use native.Mathlib.Nat.{div-add-mod', div-lt-iff-lt-mul, mul-le-mul}
+use native.Mathlib.Nat.{div-add-mod', div-lt-iff-lt-mul}
 use native.Mathlib.Numerals.{add-one}
 use native.Mathlib.Omega.{arith}
 use lib.Arith.{digits-div, digits-mod, digits-lt}
@@ -13,28 +13,10 @@ use Rattle.rules.specs.Words.{word}
 use Rattle.rules.specs.Shape.{InZones, Shape, byteAt, off, poolSize, row, rowAt, rowSize, zone, zonesAt}
 use Rattle.rules.specs.Parity.{columnByte, parityWord, xorTo}
 use Rattle.rules.specs.Scrub.{columnRight, countTo, sumTo}
-use Rattle.rules.specs.Header.{inRange}
-use Rattle.rules.proofs.Header.{range-ranged}
-use Rattle.rules.proofs.Shape.{Good, cell-high, cell-self, fits, off-cell, off-lt, row-in, zone-cell, zone-lt}
+use Rattle.rules.proofs.Shape.{Good, cell-high, cell-self, fits, off-cell, off-lt, row-in, zone-cell}
 use Rattle.rules.proofs.Xor.{xorTo-cong}
 use Rattle.columns.specs.Column.{RowsFit, Word, rowByte, rowWord, rowsZero}
 use Rattle.columns.proofs.Pages.{allTo-cong}
-
--- ---- numbers of a shape in range
-
--- the number of a row, and of its first byte behind the zones' start
-pub record RowSmall (rows z r n : ℕ) : Type 0 where
-  pub number : z * (rows + 1) + r ≤ 255
-  pub place : (z * (rows + 1) + r) * n ≤ 255 * 16384
-
-pub row-small : (sh : Shape) → inRange sh ≡ true → {z r n : ℕ} → z < sh .zones → r ≤ sh .rows → n ≤ 16384 → RowSmall (sh .rows) z r n
-row-small sh h {z} {r} {n} hz hr hn =
-    let l = range-ranged sh h in
-    let a : z ≤ 15 = omega arith in
-    let b : sh .rows + 1 ≤ 16 = omega arith in
-    let m = mul-le-mul a b in
-    let k : z * (sh .rows + 1) + r ≤ 255 = omega arith in
-    record { number = k; place = mul-le-mul k hn }
 
 -- ---- rows
 
@@ -86,14 +68,6 @@ module _ (sh : Shape) (g : Good sh) where
       ∙ ap (byteAt sh (zone sh i) (row sh i)) (div-add-mod' (off sh i) (sh .page)) ∙ cell-self sh g i low))
 
   -- ---- a target's parity
-
-  pub target-place : (t n : ℕ) → InZones sh t → n ≡ rowSize sh → ((t - zonesAt sh) / n / (sh .rows + 1) < sh .zones) × ((t - zonesAt sh) % n < rowSize sh)
-  unfolding zone off
-  target-place t n h e = rw e (zone-lt sh g t h, off-lt sh g t)
-
-  pub target-row : (t r n a : ℕ) → n ≡ rowSize sh → a ≡ byteAt sh ((t - zonesAt sh) / n / (sh .rows + 1)) r ((t - zonesAt sh) % n) → a ≡ rowAt sh t r
-  unfolding zone off rowAt
-  target-row t r n a e f = f ∙ rw e
 
   pub target-fits : (p : List ℕ) (t at n : ℕ) → InZones sh t → at ≡ rowAt sh t 0 → n ≡ rowSize sh → length p ≡ poolSize sh → RowsFit p at n (sh .rows) 8
   unfolding rowAt

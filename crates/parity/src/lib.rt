@@ -3,45 +3,19 @@ ghost use mathlib.Core.Path.{_≡_};
 ghost use mathlib.Core.Bool.{not};
 ghost use Prim.Native.Nat.{_≤_, _<_};
 ghost use lib.ListN.{length};
-ghost use Rattle.rules.specs.Shape.{InZones, byteAt, parityAt, poolSize, rowAt, rowSize};
+ghost use Rattle.rules.specs.Shape.{InZones, parityAt, poolSize};
 ghost use Rattle.rules.specs.Parity.{parityWord};
 ghost use Rattle.rules.specs.Scrub.{columnRight, countTo, wrongColumns};
 ghost use Rattle.layout.specs.Reading.{InRange, shapeOf};
 ghost use Rattle.columns.specs.Column.{Word};
 use layout::Shape;
 
-// Bytes of a row.
-pub fn row_size(s: Shape) -> usize
-    requires { ⌜ InRange (shapeOf s) ⌝ }
-    ensures { λ n. ⌜ (n ≡ rowSize (shapeOf s)) × (n ≤ 16384) ⌝ }
-{
-    s.cols * Shape::PAGE
-}
-
-// The place of byte `o` of row `r` of zone `z`.
-pub fn byte_at(s: Shape, z: usize, r: usize, o: usize) -> usize
-    requires { ⌜ (InRange (shapeOf s)) × (z < s .zones) × (r ≤ s .rows) × (o < rowSize (shapeOf s)) ⌝ }
-    ensures { λ a. ⌜ a ≡ byteAt (shapeOf s) z r o ⌝ }
-{
-    18 * Shape::PAGE + ((z * (s.rows + 1) + r) * row_size(s) + o)
-}
-
-// The place in row `r` of `t`'s column.
-fn row_at(s: Shape, t: usize, r: usize) -> usize
-    requires { ⌜ (InRange (shapeOf s)) × (InZones (shapeOf s) t) × (r ≤ s .rows) ⌝ }
-    ensures { λ a. ⌜ a ≡ rowAt (shapeOf s) t r ⌝ }
-{
-    let stride = row_size(s);
-    let o = t - 18 * Shape::PAGE;
-    byte_at(s, o / stride / (s.rows + 1), r, o % stride)
-}
-
 // The place of `t`'s parity word.
 pub fn parity_at(s: Shape, t: usize) -> usize
     requires { ⌜ (InRange (shapeOf s)) × (InZones (shapeOf s) t) ⌝ }
     ensures { λ a. ⌜ a ≡ parityAt (shapeOf s) t ⌝ }
 {
-    row_at(s, t, s.rows)
+    s.row_at(t, s.rows)
 }
 
 // The parity word for `t`'s place: the exclusive or of all data rows.
@@ -49,8 +23,8 @@ pub fn parity_word(s: Shape, pool: &[u8], t: usize) -> u64
     requires { ⌜ (InRange (shapeOf s)) × (InZones (shapeOf s) t) × (length (now pool) ≡ poolSize (shapeOf s)) ⌝ }
     ensures { λ r. ⌜ Word (parityWord (shapeOf s) (now (pool .entry)) t) r ⌝ }
 {
-    let at = row_at(s, t, 0);
-    columns::xor_rows(pool, at, row_size(s), s.rows)
+    let at = s.row_at(t, 0);
+    columns::xor_rows(pool, at, s.row_size(), s.rows)
 }
 
 // The columns of zone `z` with wrong parity.
@@ -58,11 +32,11 @@ fn wrong_in_zone(s: Shape, pool: &[u8], z: usize) -> usize
     requires { ⌜ (InRange (shapeOf s)) × (z < s .zones) × (length (now pool) ≡ poolSize (shapeOf s)) ⌝ }
     ensures { λ n. ⌜ (n ≡ countTo (s .cols) (λ c. not (columnRight (shapeOf s) (now (pool .entry)) z c))) × (n ≤ s .cols) ⌝ }
 {
-    let stride = row_size(s);
+    let stride = s.row_size();
     let mut n: usize = 0;
     for c in 0..s.cols {
-        let at = byte_at(s, z, 0, c * Shape::PAGE);
-        if !columns::page_right(pool, at, stride, s.rows + 1) {
+        let at = s.column_at(z, c);
+        if !columns::page_right(pool, at, stride, s.rows + 1, s.page) {
             n += 1;
         }
     }

@@ -1,21 +1,20 @@
 -- The ways out of format. Assumes nothing.
-use Prim.Native.Nat.{ℕ, _≤_}
+use Prim.Native.Nat.{ℕ, _*_, _≤_}
 use mathlib.Core.Path.{_≡_, refl, sym, _∙_}
 use mathlib.Core.Bool.{Bool, true, false, _||_}
 use mathlib.Core.List.{List}
 use native.Mathlib.Omega.{arith}
 use lib.ListN.{length}
 use borrow.Author.Tests.{eq-eqb, ne-eqb, le-ltb}
-use Rattle.rules.specs.Shape.{poolSize, shape}
+use Rattle.rules.specs.Shape.{pageSize, poolSize, shape}
 use Rattle.rules.specs.Test.{first}
 use Rattle.rules.specs.Answer.{concludePool}
 use Rattle.rules.specs.Format.{formatTests, formatted, freshPool}
-use Rattle.rules.proofs.Header.{range-ranged}
 use Rattle.layout.specs.declared.Shape.{Shape}
 use Rattle.layout.specs.declared.Made.{Made}
 use Rattle.layout.specs.declared.Made.the-variants as Making
 use Rattle.layout.specs.Reading.{InRange, checked, madeOf, shapeOf}
-use Rattle.layout.proofs.Range.{made-good, made-out, size-bounds}
+use Rattle.layout.proofs.Range.{bounds, made-good, made-out, size-bounds}
 use Rattle.pages.specs.Written.{HeaderFits}
 use Rattle.pool.specs.declared.Outcome.the-variants.{Done, Refused}
 use Rattle.pool.specs.Reading.{changed}
@@ -38,19 +37,19 @@ module _ (p : List ℕ) (R C Z id : ℕ) where
       pub format-length : (length p ≡ n → ⊥) → changed (Refused 2) p ≡ formatted p R C Z id
       unfolding formatted formatTests first concludePool
       format-length l =
-          let m = made-good r (shape R C Z) e s h in
-          rw (← (m .0), m .1, ne-eqb id 0 i, ne-eqb (length p) (poolSize (shapeOf s)) (λ q. l (q ∙ sym k)), or-true)
+          let m = made-good r (shape R C Z) e refl s h in
+          rw (← (m .0), m .1 .ranged, ne-eqb id 0 i, ne-eqb (length p) (poolSize (shapeOf s)) (λ q. l (q ∙ sym k)), or-true)
 
       pub format-done : (q : List ℕ) → length p ≡ n → q ≡ freshPool (shapeOf s) id → changed Done q ≡ formatted p R C Z id
       unfolding formatted formatTests first concludePool
       format-done q l f =
-          let m = made-good r (shape R C Z) e s h in
+          let m = made-good r (shape R C Z) e refl s h in
           let b = size-bounds s (m .1) in
-          rw (← (m .0), m .1, ne-eqb id 0 i, eq-eqb (length p) (poolSize (shapeOf s)) (l ∙ k), le-ltb (length p) 512 (omega (arith, l, k, b)), f)
+          rw (← (m .0), m .1 .ranged, ne-eqb id 0 i, eq-eqb (length p) (poolSize (shapeOf s)) (l ∙ k), le-ltb (length p) (2 * pageSize) (omega (arith, l, k, b, m .1 .paged)), f)
 
 -- a header page fits in both places
-pub header-fits : (s : Shape) → InRange (shapeOf s) → (l a : ℕ) → l ≡ poolSize (shapeOf s) → a ≤ 256 → HeaderFits l a (s .rows) (s .cols) (s .zones)
+pub header-fits : (s : Shape) → InRange (shapeOf s) → (l a : ℕ) → l ≡ poolSize (shapeOf s) → a ≤ s .page → HeaderFits l a (s .rows) (s .cols) (s .zones)
 header-fits s r l a e h =
     let b = size-bounds s r in
-    let g = range-ranged (shapeOf s) r in
-    record { page-le = omega arith; rows-lt = omega arith; cols-lt = omega arith; zones-lt = omega arith }
+    let g = bounds s r in
+    record { page-le = omega (arith, r .paged); rows-lt = omega arith; cols-lt = omega arith; zones-lt = omega arith }

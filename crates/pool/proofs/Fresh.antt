@@ -7,7 +7,7 @@ use native.Mathlib.Nat.{add-zero, zero-add, mul-le-mul-right, suc-mul, zero-mul}
 use native.Mathlib.Omega.{arith}
 use lib.ListN.{length, replicate, length-append, length-replicate, replicate-append-replicate, take}
 use lib.Seq.{sets, length-sets, length-take-le}
-use Rattle.rules.specs.Shape.{Shape, poolSize, rowSize, zoneAt, zoneCells, zonesAt, zoneSize}
+use Rattle.rules.specs.Shape.{Shape, pageSize, poolSize, rowSize, shape, zoneAt, zoneCells, zonesAt, zoneSize}
 use Rattle.rules.specs.Words.{digits}
 use Rattle.rules.specs.Check.{check}
 use Rattle.rules.specs.Header.{headerBytes, headerFront}
@@ -36,29 +36,29 @@ head-zeros n m h =
 
 -- ---- the headers
 
-length-header : (sh : Shape) (id : ℕ) → length (headerBytes sh id) ≡ 256
+length-header : (sh : Shape) (id : ℕ) → length (headerBytes sh id) ≡ pageSize
 unfolding headerBytes headerFront
 length-header sh id =
-    length-append (headerFront sh id) (digits 4 (check (headerFront sh id)) ++ zeros 236)
-    ∙ rw (length-append (digits 4 (check (headerFront sh id))) (zeros 236), length-digits 4 (check (headerFront sh id)), length-digits 8 id)
+    length-append (headerFront sh id) (digits 4 (check (headerFront sh id)) ++ zeros (pageSize - 20))
+    ∙ rw (length-append (digits 4 (check (headerFront sh id))) (zeros (pageSize - 20)), length-digits 4 (check (headerFront sh id)), length-digits 8 id)
 
 module _ (sh : Shape) (id : ℕ) where
   -- 20 bytes on a page of zeros are the header
-  header-zeros : sets (zeros 256) 0 (take 20 (headerBytes sh id)) ≡ headerBytes sh id
-  header-zeros = header-on-zeros (zeros 256) 0 sh id (omega arith) refl ∙ sets-all (zeros 256) (headerBytes sh id) (sym (length-header sh id))
+  header-zeros : sets (zeros pageSize) 0 (take 20 (headerBytes sh id)) ≡ headerBytes sh id
+  header-zeros = header-on-zeros (zeros pageSize) 0 sh id (omega arith) refl ∙ sets-all (zeros pageSize) (headerBytes sh id) (sym (length-header sh id))
 
   length-start : length (take 20 (headerBytes sh id)) ≡ 20
   length-start = length-take-le 20 (headerBytes sh id) (rw (length-header sh id) (omega arith))
 
   -- both headers in front of any bytes
-  pub headers-zeros : (t : List ℕ) → sets (sets (zeros 512 ++ t) 0 (take 20 (headerBytes sh id))) 256 (take 20 (headerBytes sh id)) ≡ headerBytes sh id ++ (headerBytes sh id ++ t)
+  pub headers-zeros : (t : List ℕ) → sets (sets (zeros (pageSize + pageSize) ++ t) 0 (take 20 (headerBytes sh id))) pageSize (take 20 (headerBytes sh id)) ≡ headerBytes sh id ++ (headerBytes sh id ++ t)
   headers-zeros t =
       let h : List ℕ = take 20 (headerBytes sh id) in
-      let e : sets (zeros 512 ++ t) 0 h ≡ headerBytes sh id ++ (zeros 256 ++ t) =
-      ap (λ (x : List ℕ). sets x 0 h) (append-assoc (zeros 256) (zeros 256) t) ∙ sets-left (zeros 256) (zeros 256 ++ t) 0 h (rw length-start (omega arith))
-      ∙ ap (λ (x : List ℕ). x ++ (zeros 256 ++ t)) header-zeros in
-      ap (λ (x : List ℕ). sets x 256 h) e
-      ∙ sets-mid (headerBytes sh id) (zeros 256) t 256 0 h (length-header sh id) (rw length-start (omega arith))
+      let e : sets (zeros (pageSize + pageSize) ++ t) 0 h ≡ headerBytes sh id ++ (zeros pageSize ++ t) =
+      ap (λ (x : List ℕ). sets x 0 h) (append-assoc (zeros pageSize) (zeros pageSize) t) ∙ sets-left (zeros pageSize) (zeros pageSize ++ t) 0 h (rw length-start (omega arith))
+      ∙ ap (λ (x : List ℕ). x ++ (zeros pageSize ++ t)) header-zeros in
+      ap (λ (x : List ℕ). sets x pageSize h) e
+      ∙ sets-mid (headerBytes sh id) (zeros pageSize) t pageSize 0 h (length-header sh id) (rw length-start (omega arith))
       ∙ ap (λ (x : List ℕ). headerBytes sh id ++ (x ++ t)) header-zeros
 
 -- ---- the zones
@@ -127,17 +127,20 @@ module _ (sh : Shape) (g : Good sh) where
   heads-begun front l (suc n) z e = ap (headsFrom sh (suc z) n) (next-zone front z l (omega arith)) ∙ heads-begun front l n (suc z) (omega arith)
 
   -- A FRESH POOL: zeros, both headers, the heads
-  pub fresh-stored : (id : ℕ) (p p₁ p₂ p₃ p₄ : List ℕ) → sh .page ≡ 256 → length p ≡ poolSize sh → p₁ ≡ zeros (length p) → p₂ ≡ sets p₁ 0 (take 20 (headerBytes sh id))
-      → p₃ ≡ sets p₂ 256 (take 20 (headerBytes sh id)) → p₄ ≡ headsFrom sh 0 (sh .zones) p₃ → p₄ ≡ freshPool sh id
+  pub fresh-stored : (id : ℕ) (p p₁ p₂ p₃ p₄ : List ℕ) → sh .page ≡ pageSize → length p ≡ poolSize sh → p₁ ≡ zeros (length p) → p₂ ≡ sets p₁ 0 (take 20 (headerBytes (shape (sh .rows) (sh .cols) (sh .zones)) id))
+      → p₃ ≡ sets p₂ (sh .page) (take 20 (headerBytes (shape (sh .rows) (sh .cols) (sh .zones)) id)) → p₄ ≡ headsFrom sh 0 (sh .zones) p₃ → p₄ ≡ freshPool sh id
   unfolding freshPool freshZones
   fresh-stored id p p₁ p₂ p₃ p₄ page l e₁ e₂ e₃ e₄ =
       let H : List ℕ = headerBytes sh id in
+      let same : headerBytes (shape (sh .rows) (sh .cols) (sh .zones)) id ≡ H = (unfold headerBytes headerFront in refl) in
+      let stored : p₂ ≡ sets p₁ 0 (take 20 H) = e₂ ∙ ap (λ (x : List ℕ). sets p₁ 0 (take 20 x)) same in
+      let stored-copy : p₃ ≡ sets p₂ pageSize (take 20 H) = e₃ ∙ ap (λ (x : List ℕ). sets p₂ (sh .page) (take 20 x)) same ∙ ap (λ (k : ℕ). sets p₂ k (take 20 H)) page in
       let Z : ℕ = sh .zones * zoneSize sh in
       let front : List ℕ = H ++ (H ++ zeros (16 * sh .page)) in
-      let n : length p ≡ 512 + (16 * sh .page + Z) = l ∙ size-eq sh g ∙ omega arith in
-      let a : p₁ ≡ zeros 512 ++ (zeros (16 * sh .page) ++ zeros Z) = e₁ ∙ ap zeros n ∙ zeros-add 512 (16 * sh .page + Z) ∙ ap (λ (x : List ℕ). zeros 512 ++ x) (zeros-add (16 * sh .page) Z) in
+      let n : length p ≡ pageSize + pageSize + (16 * sh .page + Z) = l ∙ size-eq sh g ∙ omega arith in
+      let a : p₁ ≡ zeros (pageSize + pageSize) ++ (zeros (16 * sh .page) ++ zeros Z) = e₁ ∙ ap zeros n ∙ zeros-add (pageSize + pageSize) (16 * sh .page + Z) ∙ ap (λ (x : List ℕ). zeros (pageSize + pageSize) ++ x) (zeros-add (16 * sh .page) Z) in
       let b : p₃ ≡ H ++ (H ++ (zeros (16 * sh .page) ++ zeros Z)) =
-      e₃ ∙ ap (λ (x : List ℕ). sets x 256 (take 20 H)) (e₂ ∙ ap (λ (x : List ℕ). sets x 0 (take 20 H)) a) ∙ headers-zeros sh id (zeros (16 * sh .page) ++ zeros Z) in
+      stored-copy ∙ ap (λ (x : List ℕ). sets x pageSize (take 20 H)) (stored ∙ ap (λ (x : List ℕ). sets x 0 (take 20 H)) a) ∙ headers-zeros sh id (zeros (16 * sh .page) ++ zeros Z) in
       let c : p₃ ≡ begunZones front 0 =
       b ∙ ap (λ (x : List ℕ). H ++ x) (sym (append-assoc H (zeros (16 * sh .page)) (zeros Z))) ∙ sym (append-assoc H (H ++ zeros (16 * sh .page)) (zeros Z))
       ∙ ap (λ (k : ℕ). front ++ zeros (k * zoneSize sh)) {x = sh .zones} {y = sh .zones - 0} (omega arith) in

@@ -12,10 +12,10 @@ use Rattle.rules.specs.Seals.{readTests}
 use Rattle.rules.specs.Answer.{concludePool}
 use Rattle.rules.specs.Repair.{anyAbove, anyTwo, repair, repairTests, repaired}
 use Rattle.rules.proofs.Test.{Passed, first-left, first-passed, first-right}
-use Rattle.rules.proofs.Header.{range-ranged}
 use Rattle.layout.specs.declared.Shape.{Shape}
 use Rattle.layout.specs.declared.Opened.the-variants as Opening
 use Rattle.layout.specs.Reading.{answer, shapeOf}
+use Rattle.layout.proofs.Range.{bounds}
 use Rattle.layout.proofs.Opening.{answer-refused, open-good}
 use Rattle.pool.specs.declared.Outcome.the-variants.{Done, Refused}
 use Rattle.pool.specs.Reading.{changed}
@@ -23,7 +23,7 @@ use Rattle.opening.proofs.Reading.{read-none, read-opened, read-shaped}
 
 module _ (p : List ℕ) where
   pub columns-small : {s : Shape} → answer (first (readTests p)) (shapeIn p) ≡ Opening.Good s → s .zones * s .cols ≤ 16 * 64
-  columns-small {s} e = let g = range-ranged (shapeOf s) (read-shaped p e .range) in mul-le-mul (g .zones-high) (g .cols-high)
+  columns-small {s} e = let g = bounds s (read-shaped p e .range) in mul-le-mul (g .zones-high) (g .cols-high)
 
   module _ (ms : List ℕ) where
     pub repair-refused : (n : ℕ) → answer (first (readTests p)) (shapeIn p) ≡ Opening.Refused n → changed (Refused n) p ≡ repair p ms

@@ -1,15 +1,15 @@
 // The public calls of the pool. None has a `requires`: each answers for all inputs, and its contract is one equation with the definition of
 // that call, which gives the answer and every byte of the pool.
 ghost use mathlib.Core.Path.{_≡_};
-ghost use Prim.Native.Nat.{ℕ, _+_, _*_, _≤_};
+ghost use Prim.Native.Nat.{ℕ, _+_};
 ghost use lib.ListN.{length};
-ghost use Rattle.rules.specs.Shape.{pageSize, poolSize};
+ghost use Rattle.rules.specs.Shape.{poolSize};
 ghost use Rattle.rules.specs.Format.{formatted, freshPool};
 ghost use Rattle.rules.specs.Mend.{mended, mendHeader};
 ghost use Rattle.rules.specs.Repair.{repair as repairCall};
 ghost use Rattle.rules.specs.Look.{look as looked, part, seen};
 ghost use Rattle.rules.specs.Scrub.{scrub as scrubbed};
-ghost use Rattle.layout.specs.Reading.{InRange, shapeOf};
+ghost use Rattle.layout.specs.Reading.{InRange, Shaped, shapeOf};
 ghost use Rattle.reading.specs.Reading.{lookOf, Within};
 ghost use Rattle.pool.specs.Fill.{headsFrom};
 ghost use Rattle.pool.specs.Reading.{changed, refusalOf, scrubOf};
@@ -56,7 +56,7 @@ fn fill(pool: &mut [u8], s: Shape, id: u64)
 {
     pages::zero(pool);
     pages::put_header(pool, 0, s.rows, s.cols, s.zones, id);
-    pages::put_header(pool, Shape::PAGE, s.rows, s.cols, s.zones, id);
+    pages::put_header(pool, s.page, s.rows, s.cols, s.zones, id);
     fill_zones(pool, s);
 }
 
@@ -83,24 +83,26 @@ pub fn mend(pool: &mut [u8]) -> Outcome
     match layout::open(pool) {
         Opened::Refused(n) => Outcome::Refused(n),
         Opened::Good(s) => {
-            copy_header(pool);
+            copy_header(pool, s);
             Outcome::Done
         }
     }
 }
 
-fn copy_header(pool: &mut [u8])
-    requires { ⌜ 2 * pageSize ≤ length (now pool) ⌝ }
+fn copy_header(pool: &mut [u8], s: Shape)
+    requires { ⌜ Shaped (now pool) (shapeOf s) ⌝ }
     ensures { λ _. ⌜ now (pool .exit) ≡ mended (now (pool .entry)) ⌝ }
 {
-    if header::valid(&pool[0..256]) {
-        if header::valid(&pool[256..512]) {
+    let page = s.page;
+    let end = 2 * page;
+    if header::valid(&pool[0..page]) {
+        if header::valid(&pool[page..end]) {
             return;
         }
-        pages::copy(pool, 0, 256, 256);
+        pages::copy(pool, 0, page, page);
         return;
     }
-    pages::copy(pool, 256, 0, 256);
+    pages::copy(pool, page, 0, page);
 }
 
 // Rebuilds the lost pages: `lost` has one mask a column, zone by zone; bit r means row r, bit R the parity row.

@@ -11,7 +11,7 @@ use Rattle.rules.specs.Zones.{headAt, objectTests}
 use Rattle.rules.specs.Look.{concludeLook, part, refused}
 use Rattle.layout.specs.declared.Shape.{Shape}
 use Rattle.layout.specs.Reading.{Shaped, shapeOf}
-use Rattle.layout.proofs.Range.{size-bounds}
+use Rattle.layout.proofs.Range.{shape-good}
 use Rattle.stage.specs.View.{seen}
 use Rattle.stage.proofs.View.{seen-none}
 use Rattle.objects.specs.declared.Named.{Named}
@@ -37,8 +37,8 @@ module _ (s : Shape) {p : List ℕ} (g : Shaped p (shapeOf s)) where
         pub body-within : h + 16 + m ≤ length p
         body-within = rw z (named-end named)
 
-        pub body-low : h + 16 + m < 2 ^ 32
-        body-low = let b = size-bounds s (g .range) in omega (arith, body-within, g .size, b)
+        pub body-low : h + 16 + m < 2 ^ 64
+        body-low = omega (arith, body-within, g .size, shape-good s (g .range) .limit)
 
         pub body-found : part (h + 16) m ≡ lookIn (shapeOf s) p a
         unfolding lookIn concludeLook

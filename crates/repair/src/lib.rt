@@ -41,9 +41,9 @@ fn rebuild_column(s: Shape, pool: &mut [u8], k: usize, mask: u16)
     requires { ⌜ (InRange (shapeOf s)) × (length (now pool) ≡ poolSize (shapeOf s)) × (k < s .zones * s .cols) × (mask < 2 ^ suc (s .rows)) × (ones mask ≡ 1) ⌝ }
     ensures { λ _. ⌜ now (pool .exit) ≡ columnRebuilt (shapeOf s) (now (pool .entry)) k (trailingZeros 16 mask) ⌝ }
 {
-    let at = parity::byte_at(s, k / s.cols, 0, k % s.cols * Shape::PAGE);
+    let at = s.column_at(k / s.cols, k % s.cols);
     let row = u16::trailing_zeros(mask) as usize;
-    columns::rebuild_page(pool, at, parity::row_size(s), s.rows + 1, row);
+    columns::rebuild_page(pool, at, s.row_size(), s.rows + 1, row, s.page);
 }
 
 // Each lost page becomes the exclusive or of its column's others.

@@ -5,7 +5,7 @@ use mathlib.Core.List.{List}
 use native.Mathlib.Nat.{div-lt-iff-lt-mul, mod-lt, mul-le-mul, mul-le-mul-right, mul-pos}
 use native.Mathlib.Omega.{arith}
 use lib.ListN.{length}
-use Rattle.rules.specs.Shape.{cellSize, poolSize, zoneAt, zoneCells, zoneSize}
+use Rattle.rules.specs.Shape.{poolSize, zoneAt, zoneCells, zoneSize}
 use Rattle.rules.proofs.Shape.{size-words, zone-cells, zone-end, zone-even}
 use Rattle.layout.specs.Reading.{InRange, Shaped, shapeOf}
 use Rattle.layout.specs.declared.Shape.{Shape}
@@ -29,8 +29,7 @@ module _ (s : Shape) (r : InRange (shapeOf s)) where
   unfolding zoneCells
   cells-some =
       let g = shape-good s r in
-      let k : 0 < s .page / cellSize = omega (arith, g .page-min) in
-      mul-pos (mul-pos (g .rows-pos) (g .cols-pos)) k
+      let k : 0 < s .page / 64 = omega (arith, g .page-min) in mul-pos (mul-pos (g .rows-pos) (g .cols-pos)) k
 
   pub address-bound : s .zones * zoneCells (shapeOf s) ≤ 16 * 65536
   address-bound = let b : zoneCells (shapeOf s) ≤ 65536 = omega (arith, shape-good s r .runs) in mul-le-mul (bounds s r .zones-high) b

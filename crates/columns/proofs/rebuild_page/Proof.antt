@@ -1,23 +1,29 @@
 -- `columns::rebuild_page` meets its contract. Assumes nothing.
 use Prim.Native.Nat.{_+_, _*_, _≤_}
-use mathlib.Core.Path.{refl, _∙_}
+use mathlib.Core.Path.{sym, _∙_, ap}
 use native.Mathlib.Omega.{arith}
 use borrow.Author.Needs.{needs}
 use lib.ListN.{length}
+use lib.Seq.{sets}
 use Rattle.rules.specs.Shape.{pageSize}
+use Rattle.columns.specs.Column.{otherByte}
 use Rattle.columns.proofs.Rows.{row-room}
+use Rattle.columns.proofs.Pages.{front-count, front-filled, front-fits, front-length, front-zeros, same-room}
 use Rattle.columns.proofs.rebuild_page.Statement.{statement}
 use Rattle.columns.proofs.rebuild_page.Tie as tie
 
 -- the lost page lies in the pool
-room : (c : tie.Start) → c .args .at + c .args .lost * c .args .stride + pageSize ≤ length (c .args .pool .now)
+room : (c : tie.Start) → c .args .at + c .args .lost * c .args .stride + c .args .page ≤ length (c .args .pool .now)
 room c = omega (arith, row-room (c .args .lost) (c .args .rows) (c .args .stride) (c .pre .1))
 
+array-borrow-prefix-sum : tie.Need-array-borrow-prefix-sum
+array-borrow-prefix-sum c = search needs
+
 slice-aggregate-xor-pages : tie.Need-slice-aggregate-xor-pages
-slice-aggregate-xor-pages c = refl
+slice-aggregate-xor-pages c = let a = c .before .before in sym (front-length (a .args .page) pageSize (a .pre .2))
 
 xor-pages-requires : tie.Need-xor-pages-requires
-xor-pages-requires c κs = (refl, c .before .before .before .pre .0)
+xor-pages-requires c κs = let a = c .before .before .before in (front-zeros (a .args .page) pageSize (a .pre .2), same-room (a .args .at + a .args .rows * a .args .stride) (a .args .page) _ (length (a .args .pool .now) + a .args .stride) (front-length (a .args .page) pageSize (a .pre .2)) (a .pre .0))
 
 mul-store : tie.Need-mul-store
 mul-store c = omega (arith, room (c .before .before .before .before .before .before))
@@ -25,28 +31,42 @@ mul-store c = omega (arith, room (c .before .before .before .before .before .bef
 add-store : tie.Need-add-store
 add-store c = omega (arith, room (c .before .before .before .before .before .before))
 
+array-share-prefix-sum : tie.Need-array-share-prefix-sum
+array-share-prefix-sum c =
+    let a = c .before .before .before .before .before .before in
+    let x = c .before .before .xor-pages in front-fits (a .args .page) pageSize (a .pre .2) (x .last .0) (x .kept .0)
+
 slice-aggregate-store : tie.Need-slice-aggregate-store
-slice-aggregate-store c = search needs
+slice-aggregate-store c =
+    let a = c .before .before .before .before .before .before .before in
+    let x = c .before .before .before .xor-pages in sym (front-count (a .args .page) pageSize (a .pre .2) (x .last .0) (x .kept .0))
 
 store-requires : tie.Need-store-requires
-store-requires c κs = let k = c .before .before .before .xor-pages .kept .0 in omega (arith, room (c .before .before .before .before .before .before .before))
+store-requires c κs =
+    let a = c .before .before .before .before .before .before .before in
+    let x = c .before .before .before .xor-pages in same-room (a .args .at + a .args .lost * a .args .stride) (a .args .page) _ _ (front-count (a .args .page) pageSize (a .pre .2) (x .last .0) (x .kept .0)) (room a)
 
 same-length : tie.Need-same-length
 same-length c = search needs
 
 returns : tie.Need-returns
 returns c =
-    let a = c .before .before .before .before .before .before .before .before .before .before .args in
-    c .before .before .store .ensures ∙ rw (c .before .before .before .before .before .before .xor-pages .ensures)
+    let a = c .before .before .before .before .before .before .before .before .before .before in
+    let x = c .before .before .before .before .before .before .xor-pages in
+    c .before .before .store .ensures
+    ∙ ap (sets (a .args .pool .now) (a .args .at + a .args .lost * a .args .stride))
+    (front-filled (a .args .page) pageSize (a .pre .2) (x .last .0) (x .kept .0) (otherByte (a .args .pool .now) (a .args .at) (a .args .stride) (a .args .rows) (a .args .lost)) (x .ensures))
 
 pub rebuild-page-spec : {M : Type 1} → statement M
 rebuild-page-spec =
     tie.close
     (tie.spec
+    array-borrow-prefix-sum
     slice-aggregate-xor-pages
     xor-pages-requires
     mul-store
     add-store
+    array-share-prefix-sum
     slice-aggregate-store
     store-requires
     same-length

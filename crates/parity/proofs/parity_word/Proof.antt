@@ -13,10 +13,10 @@ row-size-requires : tie.Need-row-size-requires
 row-size-requires c κs = search needs
 
 xor-rows-requires : tie.Need-xor-rows-requires
-xor-rows-requires c κs = let a = c .before .before .before in target-fits (shapeOf (a .args .s)) (shape-good (a .args .s) (a .pre .0)) (a .args .pool .now) (a .args .t) _ _ (a .pre .1) (c .before .row-at .ensures) (c .row-size .ensures .0) (a .pre .2)
+xor-rows-requires c κs = let a = c .before .before .before in target-fits (shapeOf (a .args .s)) (shape-good (a .args .s) (a .pre .0)) (a .args .pool .now) (a .args .t) _ _ (a .pre .1) (c .before .row-at .ensures) (c .row-size .ensures) (a .pre .2)
 
 returns : tie.Need-returns
-returns c = let a = c .before .before .before .before in target-parity (shapeOf (a .args .s)) (shape-good (a .args .s) (a .pre .0)) (a .args .pool .now) (a .args .t) _ _ _ (c .before .before .row-at .ensures) (c .before .row-size .ensures .0) (c .xor-rows .ensures)
+returns c = let a = c .before .before .before .before in target-parity (shapeOf (a .args .s)) (shape-good (a .args .s) (a .pre .0)) (a .args .pool .now) (a .args .t) _ _ _ (c .before .before .row-at .ensures) (c .before .row-size .ensures) (c .xor-rows .ensures)
 
 pub parity-word-spec : {M : Type 1} → statement M
 parity-word-spec = tie.close (tie.spec row-at-requires row-size-requires xor-rows-requires returns)

@@ -5,10 +5,10 @@ use mathlib.Core.Bool.{not}
 use mathlib.Core.List.{List}
 use native.Mathlib.Omega.{arith}
 use borrow.Author.Needs.{needs}
-use Rattle.rules.proofs.Header.{range-ranged}
 use Rattle.rules.specs.Shape.{Shape}
 use Rattle.rules.specs.Scrub.{columnRight, countTo, sumTo, wrongColumns}
 use Rattle.layout.specs.Reading.{shapeOf}
+use Rattle.layout.proofs.Range.{bounds}
 use Rattle.parity.proofs.Places.{sum-more}
 use Rattle.parity.proofs.wrong_columns.Statement.{statement}
 use Rattle.parity.proofs.wrong_columns.Tie as tie
@@ -31,7 +31,7 @@ wrong-in-zone-requires : tie.Need-wrong-in-zone-requires Inv-loop μ-loop
 wrong-in-zone-requires c κs = search needs
 
 add-n : tie.Need-add-n Inv-loop μ-loop
-add-n c = let a = c .before .before .before .before in omega (arith, range-ranged (shapeOf (a .args .s)) (a .pre .0))
+add-n c = let a = c .before .before .before .before in omega (arith, bounds (a .args .s) (a .pre .0))
 
 add-z : tie.Need-add-z Inv-loop μ-loop
 add-z c = search needs
@@ -43,7 +43,7 @@ loop-again : tie.Need-loop-again Inv-loop μ-loop
 loop-again c =
     let a = c .before .before .before .before in
     let l = c .before .before .loop in
-    (omega arith, l .inv .1, sum-more (wrong (shapeOf (a .args .s)) (a .args .pool .now)) (l .z) (l .n) _ (l .inv .2) (c .wrong-in-zone .ensures .0), omega (arith, range-ranged (shapeOf (a .args .s)) (a .pre .0)))
+    (omega arith, l .inv .1, sum-more (wrong (shapeOf (a .args .s)) (a .args .pool .now)) (l .z) (l .n) _ (l .inv .2) (c .wrong-in-zone .ensures .0), omega (arith, bounds (a .args .s) (a .pre .0)))
 
 returns : tie.Need-returns Inv-loop μ-loop
 unfolding wrongColumns

@@ -5,8 +5,7 @@ use mathlib.Core.Path.{sym, ap, _∙_, _≡_, refl}
 use mathlib.Core.Logic.{⊎-elim}
 use native.Mathlib.Omega.{arith}
 use borrow.Author.Needs.{needs}
-use Rattle.rules.proofs.Header.{range-ranged}
-use Rattle.layout.proofs.Range.{shape-good}
+use Rattle.layout.proofs.Range.{bounds, page-most, shape-good}
 use Rattle.rules.specs.Scrub.{columnRight, countTo}
 use Rattle.layout.specs.Reading.{shapeOf}
 use Rattle.parity.proofs.Places.{count-none, count-one, column-fits, column-judged}
@@ -26,20 +25,17 @@ loop-holds : tie.Need-loop-holds Inv-loop μ-loop
 unfolding countTo
 loop-holds c = (search needs, refl, refl, search needs)
 
-mul-byte-at : tie.Need-mul-byte-at Inv-loop μ-loop
-mul-byte-at c = omega (arith, range-ranged (shapeOf (c .before .before .before .before .args .s)) (c .before .before .before .before .pre .0))
-
-byte-at-requires : tie.Need-byte-at-requires Inv-loop μ-loop
-byte-at-requires c κs = search needs
+column-at-requires : tie.Need-column-at-requires Inv-loop μ-loop
+column-at-requires c κs = search needs
 
 add-page-right : tie.Need-add-page-right Inv-loop μ-loop
-add-page-right c = omega (arith, range-ranged (shapeOf (c .before .before .before .before .before .before .args .s)) (c .before .before .before .before .before .before .pre .0))
+add-page-right c = let a = c .before .before .before .before .before .before in omega (arith, bounds (a .args .s) (a .pre .0))
 
 page-right-requires : tie.Need-page-right-requires Inv-loop μ-loop
 page-right-requires c κs =
     let a = c .before .before .before .before .before .before in
-    column-fits (shapeOf (a .args .s)) (shape-good (a .args .s) (a .pre .0)) (a .args .z) (c .before .before .before .loop .c) (a .pre .1) (omega arith)
-    (a .args .pool .now) _ _ (c .before .byte-at .ensures) (c .before .before .before .before .row-size .ensures .0) (a .pre .2)
+    let f = column-fits (shapeOf (a .args .s)) (shape-good (a .args .s) (a .pre .0)) (a .args .z) (c .before .before .before .loop .c) (a .pre .1) (omega arith)
+    (a .args .pool .now) _ _ (c .before .column-at .ensures) (c .before .before .before .before .row-size .ensures) (a .pre .2) in (omega arith, page-most (a .args .s) (a .pre .0))
 
 add-n : tie.Need-add-n Inv-loop μ-loop
 add-n c = search needs
@@ -56,7 +52,7 @@ loop-again c =
     let l = c .before .before .before .before .before .loop in
     let f : ℕ → Bool = λ c. not (columnRight (shapeOf (a .args .s)) (a .args .pool .now) (a .args .z) c) in
     let e = column-judged (shapeOf (a .args .s)) (shape-good (a .args .s) (a .pre .0)) (a .args .z) (l .c) (a .pre .1) (omega arith)
-    (a .args .pool .now) _ _ _ (c .before .before .before .byte-at .ensures) (c .before .before .before .before .before .before .row-size .ensures .0) (c .before .page-right .ensures) in (
+    (a .args .pool .now) _ _ _ (c .before .before .before .column-at .ensures) (c .before .before .before .before .before .before .row-size .ensures) (c .before .page-right .ensures) in (
       omega arith,
       l .inv .1,
       ⊎-elim (λ w. w .1 ∙ count-one f (l .c) (l .n) (l .inv .2) (ap not (sym e) ∙ w .0 .taken)) (λ w. w .1 ∙ count-none f (l .c) (l .n) (l .inv .2) (ap not (sym e) ∙ w .0 .left)) (c .if1 .came),
@@ -78,8 +74,7 @@ wrong-in-zone-spec =
     μ-loop
     row-size-requires
     loop-holds
-    mul-byte-at
-    byte-at-requires
+    column-at-requires
     add-page-right
     page-right-requires
     add-n

@@ -1,10 +1,21 @@
 -- `pool::copy_header` meets its contract. Assumes nothing.
+use Prim.Native.Nat.{_*_, _≤_}
+use mathlib.Core.Path.{refl}
 use mathlib.Core.Logic.{inl, inr}
-use Rattle.pool.proofs.Mending.{mended-both, mended-copy, mended-first}
 use native.Mathlib.Omega.{arith}
 use borrow.Author.Needs.{needs}
+use lib.ListN.{length}
+use Rattle.layout.proofs.Range.{bounds, size-bounds}
+use Rattle.pool.proofs.Mending.{mended-both, mended-copy, mended-first}
 use Rattle.pool.proofs.copy_header.Statement.{statement}
 use Rattle.pool.proofs.copy_header.Tie as tie
+
+-- both pages lie in the pool
+room : (c : tie.Start) → 2 * c .args .s .page ≤ length (c .args .pool .now)
+room c = let b = size-bounds (c .args .s) (c .pre .range) in omega (arith, c .pre .size, b)
+
+mul-end : tie.Need-mul-end
+mul-end c = omega (arith, bounds (c .before .args .s) (c .before .pre .range))
 
 sub-valid : tie.Need-sub-valid
 sub-valid c = search needs
@@ -13,7 +24,7 @@ part-valid-start : tie.Need-part-valid-start
 part-valid-start c = search needs
 
 part-valid-end : tie.Need-part-valid-end
-part-valid-end c = search needs
+part-valid-end c = omega (arith, room (c .before .before))
 
 valid-requires : tie.Need-valid-requires
 valid-requires c κs = search needs
@@ -25,7 +36,7 @@ part-valid-start-2 : tie.Need-part-valid-start-2
 part-valid-start-2 c = search needs
 
 part-valid-end-2 : tie.Need-part-valid-end-2
-part-valid-end-2 c = search needs
+part-valid-end-2 c = omega (arith, room (c .before .before .before .before .before .before))
 
 valid-requires-2 : tie.Need-valid-requires-2
 valid-requires-2 c κs = search needs
@@ -34,30 +45,37 @@ same-length : tie.Need-same-length
 same-length c = search needs
 
 returns : tie.Need-returns
-returns c = mended-both _ _ _ (c .before .before .before .before .before .valid .ensures) (c .before .before .before .before .if1 .taken) (c .before .valid2 .ensures) (c .if2 .taken)
+returns c =
+    let a = c .before .before .before .before .before .before .before .before .before in
+    mended-both (a .args .pool .now) (a .args .s .page) _ (a .pre .range .paged) refl _ (c .before .before .before .before .before .valid .ensures) _ (c .before .valid2 .ensures) (c .before .before .before .before .if1 .taken) (c .if2 .taken)
 
 copy-requires : tie.Need-copy-requires
-copy-requires c κs = record { from-le = search needs; to-le = search needs; apart = inl (omega arith) }
+copy-requires c κs = let r = room (c .before .before .before .before .before .before .before .before .before .before) in record { from-le = omega arith; to-le = omega arith; apart = inl (omega arith) }
 
 same-length-2 : tie.Need-same-length-2
 same-length-2 c = search needs
 
 returns-2 : tie.Need-returns-2
-returns-2 c = mended-copy _ _ _ _ (c .before .before .before .before .before .before .before .before .before .valid .ensures) (c .before .before .before .before .before .before .before .before .if1 .taken) (c .before .before .before .before .before .valid2 .ensures) (c .before .before .before .before .if2 .left) (c .before .before .copy .ensures)
+returns-2 c =
+    let a = c .before .before .before .before .before .before .before .before .before .before .before .before .before in
+    mended-copy (a .args .pool .now) (a .args .s .page) _ (a .pre .range .paged) refl _ (c .before .before .before .before .before .before .before .before .before .valid .ensures) _ (c .before .before .before .before .before .valid2 .ensures) _ (c .before .before .before .before .before .before .before .before .if1 .taken) (c .before .before .before .before .if2 .left) (c .before .before .copy .ensures)
 
 copy-requires-2 : tie.Need-copy-requires-2
-copy-requires-2 c κs = record { from-le = search needs; to-le = search needs; apart = inr (omega arith) }
+copy-requires-2 c κs = let r = room (c .before .before .before .before .before .before) in record { from-le = omega arith; to-le = omega arith; apart = inr (omega arith) }
 
 same-length-3 : tie.Need-same-length-3
 same-length-3 c = search needs
 
 returns-3 : tie.Need-returns-3
-returns-3 c = mended-first _ _ _ (c .before .before .before .before .before .valid .ensures) (c .before .before .before .before .if1 .left) (c .before .before .copy2 .ensures)
+returns-3 c =
+    let a = c .before .before .before .before .before .before .before .before .before in
+    mended-first (a .args .pool .now) (a .args .s .page) _ (a .pre .range .paged) refl _ (c .before .before .before .before .before .valid .ensures) _ (c .before .before .before .before .if1 .left) (c .before .before .copy2 .ensures)
 
 pub copy-header-spec : {M : Type 1} → statement M
 copy-header-spec =
     tie.close
     (tie.spec
+    mul-end
     sub-valid
     part-valid-start
     part-valid-end

@@ -1,5 +1,4 @@
 -- `pool::fill` meets its contract. Assumes nothing.
-use mathlib.Core.Path.{refl}
 use Rattle.layout.specs.Reading.{shapeOf}
 use Rattle.layout.proofs.Range.{shape-good}
 use Rattle.pool.proofs.Formatting.{header-fits}
@@ -29,7 +28,7 @@ same-length : tie.Need-same-length
 same-length c = search needs
 
 returns : tie.Need-returns
-returns c = let s = c .before .before .before .before .before .before .before .before .before .before .before .before .before .before .before .before .before in fresh-stored (shapeOf (s .args .s)) (shape-good (s .args .s) (s .pre .0)) (s .args .id) (s .args .pool .now) _ _ _ _ refl (s .pre .1) (c .before .before .before .before .before .before .before .before .before .before .before .before .before .before .zero .ensures) (c .before .before .before .before .before .before .before .before .before .before .put-header .ensures) (c .before .before .before .before .before .before .put-header2 .ensures) (c .before .before .fill-zones .ensures)
+returns c = let s = c .before .before .before .before .before .before .before .before .before .before .before .before .before .before .before .before .before in fresh-stored (shapeOf (s .args .s)) (shape-good (s .args .s) (s .pre .0)) (s .args .id) (s .args .pool .now) _ _ _ _ (s .pre .0 .paged) (s .pre .1) (c .before .before .before .before .before .before .before .before .before .before .before .before .before .before .zero .ensures) (c .before .before .before .before .before .before .before .before .before .before .put-header .ensures) (c .before .before .before .before .before .before .put-header2 .ensures) (c .before .before .fill-zones .ensures)
 
 pub fill-spec : {M : Type 1} → statement M
 fill-spec =

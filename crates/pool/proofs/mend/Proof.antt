@@ -1,7 +1,8 @@
 -- `pool::mend` meets its contract. Assumes nothing.
 use mathlib.Core.Path.{sym, _∙_}
 use borrow.Author.Needs.{needs}
-use Rattle.pool.proofs.Mending.{mend-done, mend-refused, mend-room}
+use Rattle.layout.proofs.Opening.{open-shaped}
+use Rattle.pool.proofs.Mending.{mend-done, mend-refused}
 use Rattle.pool.proofs.mend.Statement.{statement}
 use Rattle.pool.proofs.mend.Tie as tie
 
@@ -15,7 +16,7 @@ enum-known-s : tie.Need-enum-known-s
 enum-known-s c = search needs
 
 copy-header-requires : tie.Need-copy-header-requires
-copy-header-requires c κs = mend-room _ _ (sym (c .before .before .before .before .«open» .ensures) ∙ c .before .before .s .given .1)
+copy-header-requires c κs = open-shaped _ _ (sym (c .before .before .before .before .«open» .ensures) ∙ c .before .before .s .given .1)
 
 same-length : tie.Need-same-length
 same-length c = search needs

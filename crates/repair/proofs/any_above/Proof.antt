@@ -6,8 +6,8 @@ use borrow.Author.Tests.{le-leb, lt-leb}
 use borrow.Author.Needs.{needs}
 use lib.Dec.{leb}
 use lib.ListN.{length, drop}
-use Rattle.rules.proofs.Header.{range-ranged}
 use Rattle.layout.specs.Reading.{shapeOf}
+use Rattle.layout.proofs.Range.{bounds}
 use Rattle.repair.proofs.Masks.{any-end, mask-end, above-any, any-hit, any-pass, anyOf}
 use Rattle.repair.proofs.any_above.Statement.{statement}
 use Rattle.repair.proofs.any_above.Tie as tie
@@ -19,10 +19,10 @@ abbrev μ-loop : tie.MeasureT-loop
 μ-loop lost end i₀ i-end i = length lost - i
 
 add-end : tie.Need-add-end Inv-loop μ-loop
-add-end c = let a = c .before in let b = range-ranged (shapeOf (a .args .s)) (a .pre) in omega arith
+add-end c = let a = c .before in let b = bounds (a .args .s) (a .pre) in omega arith
 
 shl-end : tie.Need-shl-end Inv-loop μ-loop
-shl-end c = let a = c .before in let b = range-ranged (shapeOf (a .args .s)) (a .pre) in omega arith
+shl-end c = let a = c .before in let b = bounds (a .args .s) (a .pre) in omega arith
 
 loop-holds : tie.Need-loop-holds Inv-loop μ-loop
 loop-holds c = (search needs, refl, refl)
@@ -40,7 +40,7 @@ returns : tie.Need-returns Inv-loop μ-loop
 returns c =
     let l = c .before .before .before .loop in
     let a = c .before .before .before .before .before in
-    any-hit _ (a .args .lost .now) (l .i) (l .inv .2) (omega arith) (le-leb _ _ (c .if1 .taken)) ∙ above-any (shapeOf (a .args .s)) _ (a .args .lost .now) (mask-end (a .args .s .rows) (range-ranged (shapeOf (a .args .s)) (a .pre) .rows-high))
+    any-hit _ (a .args .lost .now) (l .i) (l .inv .2) (omega arith) (le-leb _ _ (c .if1 .taken)) ∙ above-any (shapeOf (a .args .s)) _ (a .args .lost .now) (mask-end (a .args .s .rows) (bounds (a .args .s) (a .pre) .rows-high))
 
 add-i : tie.Need-add-i Inv-loop μ-loop
 add-i c = search needs
@@ -58,7 +58,7 @@ returns-2 : tie.Need-returns-2 Inv-loop μ-loop
 returns-2 c =
     let l = c .before .loop in
     let a = c .before .before .before in
-    any-end _ (a .args .lost .now) (l .i) (l .inv .2) (omega arith) ∙ above-any (shapeOf (a .args .s)) _ (a .args .lost .now) (mask-end (a .args .s .rows) (range-ranged (shapeOf (a .args .s)) (a .pre) .rows-high))
+    any-end _ (a .args .lost .now) (l .i) (l .inv .2) (omega arith) ∙ above-any (shapeOf (a .args .s)) _ (a .args .lost .now) (mask-end (a .args .s .rows) (bounds (a .args .s) (a .pre) .rows-high))
 
 pub any-above-spec : {M : Type 1} → statement M
 any-above-spec =

@@ -3,17 +3,16 @@ use lib.Count.{trailingZeros}
 use Prim.Native.Nat.{suc, _/_, _%_, _<_}
 use native.Mathlib.Omega.{arith}
 use borrow.Author.Needs.{needs}
-use Rattle.rules.proofs.Header.{Ranged, range-ranged}
 use Rattle.layout.specs.Reading.{shapeOf}
-use Rattle.layout.proofs.Range.{shape-good}
+use Rattle.layout.proofs.Range.{Bounds, bounds, page-most, shape-good}
 use Rattle.parity.proofs.Places.{column-fits}
 use Rattle.repair.proofs.Masks.{lost-row}
 use Rattle.repair.proofs.Repaired.{column-range, column-rebuilt}
 use Rattle.repair.proofs.rebuild_column.Statement.{statement}
 use Rattle.repair.proofs.rebuild_column.Tie as tie
 
-ranged : (c : tie.Start) → Ranged (shapeOf (c .args .s))
-ranged c = range-ranged (shapeOf (c .args .s)) (c .pre .0)
+ranged : (c : tie.Start) → Bounds (c .args .s .page) (c .args .s .rows) (c .args .s .cols) (c .args .s .zones)
+ranged c = bounds (c .args .s) (c .pre .0)
 
 column : (c : tie.Start) → (c .args .k / c .args .s .cols < c .args .s .zones) × (c .args .k % c .args .s .cols < c .args .s .cols)
 column c = column-range (c .args .k) (c .args .s .zones) (c .args .s .cols) (ranged c .cols-low) (c .pre .2)
@@ -21,17 +20,14 @@ column c = column-range (c .args .k) (c .args .s .zones) (c .args .s .cols) (ran
 lost-below : (c : tie.Start) → trailingZeros 16 (c .args .mask) < suc (c .args .s .rows)
 lost-below c = lost-row (suc (c .args .s .rows)) (c .args .mask) (omega (arith, ranged c)) (c .pre .3) (c .pre .4) .1
 
-div-byte-at : tie.Need-div-byte-at
-div-byte-at c = omega (arith, ranged (c .before .before))
+div-column-at : tie.Need-div-column-at
+div-column-at c = omega (arith, ranged (c .before .before))
 
-rem-byte-at : tie.Need-rem-byte-at
-rem-byte-at c = omega (arith, ranged (c .before .before .before))
+rem-column-at : tie.Need-rem-column-at
+rem-column-at c = omega (arith, ranged (c .before .before .before))
 
-mul-byte-at : tie.Need-mul-byte-at
-mul-byte-at c = omega (arith, ranged (c .before .before .before), column (c .before .before .before))
-
-byte-at-requires : tie.Need-byte-at-requires
-byte-at-requires c κs = let a = c .before .before .before in let k = column a in (a .pre .0, k .0, omega arith, omega arith)
+column-at-requires : tie.Need-column-at-requires
+column-at-requires c κs = let a = c .before .before .before in let k = column a in (a .pre .0, k .0, k .1)
 
 cast-row : tie.Need-cast-row
 cast-row c = omega (arith, ranged (c .before .before .before .before), lost-below (c .before .before .before .before))
@@ -45,25 +41,23 @@ add-rebuild-page c = omega (arith, ranged (c .before .before .before .before .be
 rebuild-page-requires : tie.Need-rebuild-page-requires
 rebuild-page-requires c κs =
     let a = c .before .before .before .before .before .before .before in
-    let k = column a in (
-      column-fits _ (shape-good (a .args .s) (a .pre .0)) _ _ (k .0) (k .1) (a .args .pool .now) _ _ (c .before .before .before .byte-at .ensures) (c .before .row-size .ensures .0) (a .pre .1),
-      omega (arith, lost-below a),
-    )
+    let k = column a in
+    let f = column-fits (shapeOf (a .args .s)) (shape-good (a .args .s) (a .pre .0)) _ _ (k .0) (k .1) (a .args .pool .now) _ _ (c .before .before .before .column-at .ensures) (c .before .row-size .ensures) (a .pre .1) in
+    (omega arith, omega (arith, lost-below a), page-most (a .args .s) (a .pre .0))
 
 same-length : tie.Need-same-length
 same-length c = search needs
 
 returns : tie.Need-returns
-returns c = let a = c .before .before .before .before .before .before .before .before .before .before in column-rebuilt (shapeOf (a .args .s)) (a .args .pool .now) _ (a .args .k) _ _ _ (c .before .before .before .before .before .before .byte-at .ensures) (c .before .before .before .before .row-size .ensures .0) (c .before .before .rebuild-page .ensures)
+returns c = let a = c .before .before .before .before .before .before .before .before .before .before in column-rebuilt (shapeOf (a .args .s)) (a .args .pool .now) _ (a .args .k) _ _ _ (c .before .before .before .before .before .before .column-at .ensures) (c .before .before .before .before .row-size .ensures) (c .before .before .rebuild-page .ensures)
 
 pub rebuild-column-spec : {M : Type 1} → statement M
 rebuild-column-spec =
     tie.close
     (tie.spec
-    div-byte-at
-    rem-byte-at
-    mul-byte-at
-    byte-at-requires
+    div-column-at
+    rem-column-at
+    column-at-requires
     cast-row
     row-size-requires
     add-rebuild-page

@@ -7,9 +7,8 @@ use borrow.Author.Needs.{needs}
 use lib.ListN.{length, take}
 use lib.Seq.{take-length}
 use Rattle.rules.specs.Repair.{repaired}
-use Rattle.rules.proofs.Header.{range-ranged}
 use Rattle.layout.specs.Reading.{shapeOf}
-use Rattle.layout.proofs.Range.{shape-good}
+use Rattle.layout.proofs.Range.{bounds, shape-good}
 use Rattle.repair.proofs.Repaired.{repaired-zero, repaired-lost, mask-one, mask-small, repaired-none}
 use Rattle.repair.proofs.repair_pages.Statement.{statement}
 use Rattle.repair.proofs.repair_pages.Tie as tie
@@ -34,7 +33,7 @@ rebuild-column-requires : tie.Need-rebuild-column-requires Inv-loop μ-loop
 rebuild-column-requires c κs =
     let a = c .before .before .before .before .before .before .before in
     let l = c .before .before .before .before .loop in
-    let b = range-ranged (shapeOf (a .args .s)) (a .pre .0) in
+    let b = bounds (a .args .s) (a .pre .0) in
     let g = shape-good (a .args .s) (a .pre .0) in
     let h : l .k < length (a .args .lost .now) = omega arith in (
       a .pre .0,
@@ -54,7 +53,7 @@ loop-again : tie.Need-loop-again Inv-loop μ-loop
 loop-again c =
     let a = c .before .before .before .before .before .before in
     let l = c .before .before .before .loop in
-    let b = range-ranged (shapeOf (a .args .s)) (a .pre .0) in
+    let b = bounds (a .args .s) (a .pre .0) in
     let g = shape-good (a .args .s) (a .pre .0) in
     let h : l .k < length (a .args .lost .now) = omega arith in (
       omega arith,

@@ -1,6 +1,6 @@
 -- `scrub::count_pool` meets its contract. Assumes nothing.
 use Prim.Native.Nat.{_-_}
-use Rattle.rules.proofs.Header.{range-ranged}
+use Rattle.layout.proofs.Range.{bounds}
 use Rattle.layout.specs.Reading.{shapeOf}
 use Rattle.zones.proofs.Shaped.{staged-none, zone-inside}
 use Rattle.scrub.proofs.CountingZones.{CountingZones, cells-small, zones-end, zones-start, zones-step}
@@ -29,13 +29,13 @@ count-zone-requires c κs =
 add-objects : tie.Need-add-objects Inv-loop μ-loop
 add-objects c =
     let s = c .before .before .before .before .before .before in
-    let g = range-ranged (shapeOf (s .args .s)) (s .pre .range) in
+    let g = bounds (s .args .s) (s .pre .range) in
     omega (arith, c .before .before .before .before .loop .inv .objects .few, c .before .before .before .before .loop .inv .within, g .zones-high, c .before .count-zone .ensures .few, cells-small (s .args .s) (s .pre .range) (c .before .before .zone .ensures))
 
 add-damaged : tie.Need-add-damaged Inv-loop μ-loop
 add-damaged c =
     let s = c .before .before .before .before .before .before .before in
-    let g = range-ranged (shapeOf (s .args .s)) (s .pre .range) in
+    let g = bounds (s .args .s) (s .pre .range) in
     omega (arith, c .before .before .before .before .before .loop .inv .damaged .few, c .before .before .before .before .before .loop .inv .within, g .zones-high, c .before .before .count-zone .ensures .fewer, cells-small (s .args .s) (s .pre .range) (c .before .before .before .zone .ensures))
 
 one-if-requires : tie.Need-one-if-requires Inv-loop μ-loop
@@ -44,7 +44,7 @@ one-if-requires c κs = search needs
 add-broken : tie.Need-add-broken Inv-loop μ-loop
 add-broken c =
     let s = c .before .before .before .before .before .before .before .before .before in
-    let g = range-ranged (shapeOf (s .args .s)) (s .pre .range) in
+    let g = bounds (s .args .s) (s .pre .range) in
     omega (arith, c .before .before .before .before .before .before .before .loop .inv .few, c .before .before .before .before .before .before .before .loop .inv .within, g .zones-high, c .one-if .ensures .1)
 
 add-z : tie.Need-add-z Inv-loop μ-loop

@@ -330,7 +330,7 @@ def column():
 def tables():
     """The layers with their crates, and the numbered calls with the crates that they go through."""
     layers, calls = {}, []
-    for line in (ROOT / "docs/ARCHITECTURE.md").read_text().splitlines():
+    for line in (ROOT / "docs/ARCHITECTURE.md").read_text().split("\n## One thing, four names\n")[0].splitlines():
         cells = [cell.strip() for cell in line.strip("|").split("|")]
         if re.match(r"\| [a-z]+ \| `[a-z_0-9]+` \|", line):
             layers.setdefault(cells[0], []).append(cells[1].strip("`"))

@@ -15,6 +15,7 @@ use Rattle.rules.specs.Words.{field, number}
 use Rattle.rules.specs.Shape.{pageSize}
 use Rattle.rules.specs.Header.{same}
 use Rattle.rules.proofs.Bool.{and-true, split}
+use Rattle.rules.proofs.Numbers.{less}
 use Rattle.rules.proofs.Zeros.{or-zero}
 use Rattle.words.specs.Loaded.{Loaded}
 use Rattle.words.proofs.Fields.{field-byte, field-join}
@@ -27,9 +28,8 @@ module _ (h : List ℕ) (l : length h ≡ pageSize) where
   zeros-byte : (i : ℕ) → i < pageSize → zeros h i ≡ (eqb (getD h i 0) 0 && zeros h (i + 1))
   unfolding zeros same
   zeros-byte i k =
-      let e : pageSize - i ≡ suc (pageSize - (i + 1)) = omega arith in
       let j : i < length h = omega arith in
-      rw (e, drop-cons h i 0 j, add-one i)
+      rw (less pageSize i k, drop-cons h i 0 j, add-one i)
 
   field-suc : (k i : ℕ) → field (suc k) h i ≡ getD h i 0 + 256 * field k h (i + 1)
   field-suc k i = ap (λ (n : ℕ). field n h i) (sym (one-add k)) ∙ field-join 1 k h i ∙ ap (λ (x : ℕ). x + 256 * field k h (i + 1)) (field-byte h i)

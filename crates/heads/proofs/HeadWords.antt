@@ -6,12 +6,14 @@ use mathlib.Core.List.{List, [], _++_, append-nil, append-assoc}
 use native.Mathlib.Nat.{add-comm}
 use native.Mathlib.Omega.{arith}
 use lib.ListN.{length, take, drop}
-use lib.Seq.{drop-drop, take-add}
+use lib.Seq.{drop-drop, sets, take-add}
 use lib.Dec.{eqb}
 use borrow.Author.Tests.{eq-eqb, eqb-true}
-use Rattle.rules.specs.Words.{digits, field, number}
+use Rattle.rules.specs.Words.{digits, field, number, put}
 use Rattle.rules.specs.Check.{check}
 use Rattle.rules.specs.Runs.{cellsFor, covered, freeHead, freeOk, headBytes, headCells, headCheck, headKind, headLength, headTag, objectOk}
+use Rattle.rules.proofs.Words.{length-digits}
+use Rattle.rules.proofs.Sets.{sets-append}
 use Rattle.rules.proofs.Laid.{free-ok, free-says, object-ok, object-says}
 use Rattle.sums.specs.Fed.{Fed, Started}
 use Rattle.sums.proofs.Fed.{fed-append, fed-check}
@@ -22,6 +24,11 @@ use Rattle.heads.proofs.Digits.{digits-join}
 pub head-reads : {v : List ℕ} {at a b : ℕ} → Reads v at a → Reads v (at + 8) b → headOf a b ≡ part 16 at v
 unfolding headOf part
 head-reads {v} {at} p q = ap₂ (λ (x y : List ℕ). x ++ y) (p .bytes) (q .bytes ∙ ap (take 8) (sym (drop-drop 8 at v))) ∙ sym (take-add 8 8 (drop at v))
+
+pub head-stored : (p : List ℕ) (at a b : ℕ) {p₁ p₂ : List ℕ} → p₁ ≡ put p at a → p₂ ≡ put p₁ (at + 8) b → p₂ ≡ sets p at (headOf a b)
+unfolding headOf put
+head-stored p at a b e f =
+    f ∙ rw e (ap (λ (k : ℕ). sets (sets p at (digits 8 a)) (at + k) (digits 8 b)) (sym (length-digits 8 a)) ∙ sym (sets-append p at (digits 8 a) (digits 8 b)))
 
 -- ---- fields
 

@@ -5,6 +5,8 @@ ghost use mathlib.Core.Path.{_≡_};
 ghost use mathlib.Core.List.{[]};
 ghost use Prim.Native.Nat.{_+_, _*_, _/_, _%_, _≤_, _<_};
 ghost use lib.ListN.{length, take};
+ghost use lib.Seq.{sets};
+ghost use Rattle.rules.specs.Shape.{headSize};
 ghost use Rattle.rules.specs.Words.{digits};
 ghost use Rattle.rules.specs.Runs.{cellsFor, freeHead, freeOk, headBytes, headCells, headCheck, headLength, headTag, objectKind, objectOk};
 ghost use Rattle.sums.specs.Fed.{Below, Fed};
@@ -146,6 +148,15 @@ pub fn object_head(tag: u32, body: &[u8]) -> Head
     ensures { λ r. ⌜ headOf (r .first) (r .second) ≡ headBytes objectKind (cellsFor (length (now (body .entry)))) (length (now (body .entry))) tag (now (body .entry)) ⌝ }
 {
     checked(object_first(body.len()), tag, body)
+}
+
+// A head, stored at `at`.
+pub fn put_head(s: &mut [u8], at: usize, head: Head)
+    requires { ⌜ at + headSize ≤ length (now s) ⌝ }
+    ensures { λ _. ⌜ now (s .exit) ≡ sets (now (s .entry)) at (headOf (head .first) (head .second)) ⌝ }
+{
+    words::store64(s, at, head.first);
+    words::store64(s, at + 8, head.second);
 }
 
 // The head at `at`, as staged.

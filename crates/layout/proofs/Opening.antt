@@ -3,18 +3,18 @@ use Prim.Native.Nat.{ℕ, _≤_, _<_}
 use mathlib.Core.Path.{_≡_, refl, sym, ap, _∙_}
 use mathlib.Core.Bool.{Bool, true, false, not}
 use mathlib.Core.Option.{Option, none, some}
-use mathlib.Core.List.{List}
+use mathlib.Core.List.{List, _++_}
 use native.Mathlib.Omega.{arith}
 use lib.Dec.{eqb}
 use lib.ListN.{length, take}
 use borrow.Author.Tests.{eq-eqb, eqb-true, le-ltb, lt-ltb, ne-eqb}
 use Rattle.rules.specs.Shape.{Shape as PoolShape, pageSize, poolSize, zonesAt}
-use Rattle.rules.specs.Test.{first}
+use Rattle.rules.specs.Test.{Test, first}
 use Rattle.rules.specs.Header.{differing, headerOk, headerShape, inRange, letters, openTests, pageAt, same, shapeIn, validHeader}
 use Rattle.rules.proofs.Bool.{split}
 use Rattle.rules.proofs.Chain.{and-stop}
 use Rattle.rules.proofs.Shape.{Good as GoodShape}
-use Rattle.rules.proofs.Test.{Passed, first-passed, not-not, passed-first}
+use Rattle.rules.proofs.Test.{Passed, first-passed, not-not, passed-first, passed-left}
 use Rattle.rules.proofs.Header.{passed-range, same-eq}
 use Rattle.layout.specs.declared.Shape.{Shape}
 use Rattle.layout.specs.declared.Opened.{Opened}
@@ -108,6 +108,12 @@ module _ (p : List ℕ) where
   pub passed-open : Passed (openTests p) → opened p ≡ Good (shapeFrom (shapeIn p))
   unfolding opened answer
   passed-open o = rw (passed-first (openTests p) o)
+
+  -- also where more tests follow
+  pub answer-opened : (ts : List Test) {s : Shape} → answer (first (openTests p ++ ts)) (shapeIn p) ≡ Good s → opened p ≡ Good s
+  answer-opened ts {s} e =
+      let a = answer-good (first (openTests p ++ ts)) (shapeIn p) s e in
+      passed-open (passed-left (openTests p) ts (first-passed (openTests p ++ ts) (a .0))) ∙ ap Good (a .1)
 
   pub refused-open : (n : ℕ) → first (openTests p) ≡ some n → opened p ≡ Refused n
   unfolding opened answer

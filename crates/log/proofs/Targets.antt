@@ -15,6 +15,7 @@ use Rattle.rules.specs.Shape.{Shape as PoolShape, byteAt, poolSize, row, rowSiz
 use Rattle.rules.specs.Check.{check}
 use Rattle.rules.specs.Staging.{Store, entriesAt, entryBytes, goodTargets}
 use Rattle.rules.proofs.Bool.{and-split, split}
+use Rattle.rules.proofs.Numbers.{less}
 use Rattle.rules.proofs.Shape.{Good, cell-self, off-lt, row-in-zone, span-pos, zone-below, zone-cells, zone-end, zone-low}
 use Rattle.words.specs.Loaded.{Loaded}
 use Rattle.layout.specs.declared.Shape.{Shape}
@@ -50,9 +51,8 @@ module _ (p : List ℕ) (at n : ℕ) where
 pub read-next : (p : List ℕ) (at n i : ℕ) → i < n → read p (at + 16 * i) (n - i) ≡ entry p (at + 16 * i) ∷ read p (at + 16 * (i + 1)) (n - (i + 1))
 unfolding read
 read-next p at n i h =
-    let e : n - i ≡ suc (n - (i + 1)) = omega arith in
     let f : at + 16 * i + 16 ≡ at + 16 * (i + 1) = omega arith in
-    rw e (ap (λ (a : ℕ). entry p (at + 16 * i) ∷ entriesAt p a (n - (i + 1))) f)
+    rw (less n i h) (ap (λ (a : ℕ). entry p (at + 16 * i) ∷ entriesAt p a (n - (i + 1))) f)
 
 pub read-none : (p : List ℕ) (at n i : ℕ) → n ≤ i → read p (at + 16 * i) (n - i) ≡ []
 unfolding read

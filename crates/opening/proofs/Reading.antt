@@ -1,17 +1,17 @@
 -- A pool opened for reading, way out by way out; and what a caller knows of it. Assumes nothing.
 use Prim.Native.Nat.{ℕ}
-use mathlib.Core.Path.{_≡_, ap, _∙_}
+use mathlib.Core.Path.{_≡_}
 use mathlib.Core.Bool.{Bool, true, false}
 use mathlib.Core.Option.{none}
 use mathlib.Core.List.{List, [], _∷_}
 use Rattle.rules.specs.Test.{first}
 use Rattle.rules.specs.Header.{openTests, shapeIn}
 use Rattle.rules.specs.Seals.{readTests, sealTest, unsealed}
-use Rattle.rules.proofs.Test.{first-left, first-passed, first-right, passed-left}
+use Rattle.rules.proofs.Test.{first-left, first-right}
 use Rattle.layout.specs.declared.Shape.{Shape}
 use Rattle.layout.specs.declared.Opened.the-variants as Opening
 use Rattle.layout.specs.Reading.{Shaped, answer, opened, shapeOf}
-use Rattle.layout.proofs.Opening.{answer-good, open-good, open-passed, open-refused, open-shaped, passed-open}
+use Rattle.layout.proofs.Opening.{answer-good, answer-opened, open-good, open-passed, open-refused, open-shaped}
 
 module _ (p : List ℕ) where
   pub quiet-refused : (n : ℕ) → opened p ≡ Opening.Refused n → Opening.Refused n ≡ answer (first (readTests p)) (shapeIn p)
@@ -38,9 +38,7 @@ module _ (p : List ℕ) {s : Shape} (e : answer (first (readTests p)) (shapeIn p
 
   pub read-opened : opened p ≡ Opening.Good s
   unfolding readTests
-  read-opened =
-      passed-open p (passed-left (openTests p) (sealTest p ∷ []) (first-passed (readTests p) read-none))
-      ∙ ap Opening.Good (answer-good (first (readTests p)) (shapeIn p) s e .1)
+  read-opened = answer-opened p (sealTest p ∷ []) e
 
   pub read-shaped : Shaped p (shapeOf s)
   read-shaped = open-shaped p s read-opened

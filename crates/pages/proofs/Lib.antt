@@ -1,3 +1,2 @@
 pub mod Storing
 pub mod Header
-pub mod FreeHead

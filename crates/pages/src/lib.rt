@@ -1,13 +1,11 @@
-// Parts of a page written: zeros, bytes given, a copy, a header, and the head of a free run (01, "The pool's bytes", "Cells and runs").
+// Parts of a page written: zeros, bytes given, a copy, and a header (01, "The pool's bytes").
 ghost use mathlib.Core.Path.{_≡_};
 ghost use Prim.Native.Nat.{_+_, _≤_, _<_};
 ghost use lib.ListN.{length, take, drop, replicate};
 ghost use lib.Seq.{sets};
-ghost use Rattle.rules.specs.Shape.{headSize, shape};
+ghost use Rattle.rules.specs.Shape.{shape};
 ghost use Rattle.rules.specs.Header.{headerBytes, headerFront};
-ghost use Rattle.rules.specs.Runs.{freeHead};
 ghost use Rattle.pages.specs.Written.{Apart, HeaderFits};
-use sums::Sums;
 
 // Zeros in all of `s`.
 pub fn zero(s: &mut [u8])
@@ -70,15 +68,4 @@ pub fn put_header(s: &mut [u8], at: usize, rows: usize, cols: usize, zones: usiz
     put_front(s, at, rows, cols, zones, id);
     let check = sums::check(&s[at..at + 16]);
     words::store32(s, at + 16, check as u64);
-}
-
-// The head of a free run of `cells` cells.
-pub fn put_free_head(s: &mut [u8], at: usize, cells: usize)
-    requires { ⌜ (at + headSize ≤ length (now s)) × (cells < 65536) ⌝ }
-    ensures { λ _. ⌜ now (s .exit) ≡ sets (now (s .entry)) at (freeHead cells) ⌝ }
-{
-    words::store64(s, at, 1 + 65536 * (cells as u64));
-    words::store64(s, at + 8, 0);
-    let sums = Sums::new().feed(&s[at..at + 8]).feed(&s[at + 12..at + 16]);
-    words::store32(s, at + 8, sums.value() as u64);
 }

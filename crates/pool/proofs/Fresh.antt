@@ -13,6 +13,7 @@ use Rattle.rules.specs.Check.{check}
 use Rattle.rules.specs.Header.{headerBytes, headerFront}
 use Rattle.rules.specs.Runs.{freeHead}
 use Rattle.rules.proofs.Words.{length-digits}
+use Rattle.rules.proofs.Numbers.{less}
 use Rattle.pages.proofs.Header.{header-on-zeros}
 use Rattle.rules.specs.Format.{freshPool, freshZone, freshZones}
 use Rattle.pool.specs.Fill.{headsFrom}
@@ -160,17 +161,16 @@ pub record Filling (sh : Shape) (p₀ p : List ℕ) (z : ℕ) : Type 0 where
 pub filling-start : (sh : Shape) (p : List ℕ) → length p ≡ poolSize sh → Filling sh p p 0
 filling-start sh p l = record { le = omega arith; length-is = l; rest = ap (λ (k : ℕ). headsFrom sh 0 k p) {x = sh .zones - 0} {y = sh .zones} (omega arith) }
 
-pub filling-step : {sh : Shape} {p₀ p p₁ p₂ : List ℕ} {z at cells : ℕ} → Filling sh p₀ p z → z < sh .zones → at ≡ zoneAt sh z → cells ≡ zoneCells sh
-    → p₁ ≡ sets p at (freeHead cells) → p₂ ≡ sets p₁ (at + 64 * cells) (freeHead cells) → Filling sh p₀ p₂ (z + 1)
+pub filling-step : {sh : Shape} {p₀ p p₁ p₂ : List ℕ} {head : List ℕ} {z at cells : ℕ} → Filling sh p₀ p z → z < sh .zones → at ≡ zoneAt sh z → cells ≡ zoneCells sh
+    → head ≡ freeHead cells → p₁ ≡ sets p at head → p₂ ≡ sets p₁ (at + 64 * cells) head → Filling sh p₀ p₂ (z + 1)
 unfolding headsFrom
-filling-step {sh} {p₀} {p} {p₁} {p₂} {z} f h a c e₁ e₂ =
+filling-step {sh} {p₀} {p} {p₁} {p₂} {z = z} f h a c w e₁ e₂ =
     let F : List ℕ = freeHead (zoneCells sh) in
-    let e : p₂ ≡ sets (sets p (zoneAt sh z) F) (zoneAt sh z + 64 * zoneCells sh) F = e₂ ∙ rw (e₁, a, c) in
-    let n : sh .zones - z ≡ suc (sh .zones - (z + 1)) = omega arith in
+    let e : p₂ ≡ sets (sets p (zoneAt sh z) F) (zoneAt sh z + 64 * zoneCells sh) F = e₂ ∙ rw (e₁, w, a, c) in
     record {
       le = omega arith;
       length-is = ap length e ∙ length-sets (sets p (zoneAt sh z) F) (zoneAt sh z + 64 * zoneCells sh) F ∙ length-sets p (zoneAt sh z) F ∙ f .length-is;
-      rest = rw (add-one z, e) (sym (ap (λ (k : ℕ). headsFrom sh z k p) (n ∙ ap (λ (k : ℕ). suc (sh .zones - k)) (add-one z))) ∙ f .rest);
+      rest = rw (add-one z, e) (sym (ap (λ (k : ℕ). headsFrom sh z k p) (less (sh .zones) z h ∙ ap (λ (k : ℕ). suc (sh .zones - k)) (add-one z))) ∙ f .rest);
     }
 
 pub filling-end : {sh : Shape} {p₀ p : List ℕ} {z : ℕ} → Filling sh p₀ p z → sh .zones ≤ z → p ≡ headsFrom sh 0 (sh .zones) p₀

@@ -67,11 +67,12 @@ fn fill_zones(pool: &mut [u8], s: Shape)
 {
     let zones = s.zones;
     let cells = s.cells();
+    let head = heads::free_head(cells);
     let mut z = 0;
     while z < zones {
         let at = s.zone_at(z);
-        pages::put_free_head(pool, at, cells);
-        pages::put_free_head(pool, at + 64 * cells, cells);
+        heads::put_head(pool, at, head);
+        heads::put_head(pool, at + 64 * cells, head);
         z += 1;
     }
 }

@@ -16,12 +16,12 @@ use Rattle.rules.specs.Seals.{unsealed}
 use Rattle.rules.specs.Staging.{Phase, Transaction, closed, commitLength, committing, entriesAt, goodTargets, impossible, isLive, live, pastCommit}
 use Rattle.rules.specs.Answer.{Given}
 use Rattle.rules.specs.Calls.{liveTests, recordTests}
-use Rattle.rules.proofs.Test.{Passed, first-left, first-passed, first-right, not-not, passed-left, passed-right}
+use Rattle.rules.proofs.Test.{Passed, first-left, first-passed, first-right, not-not, passed-right}
 use Rattle.layout.specs.declared.Shape.{Shape}
 use Rattle.layout.specs.declared.Opened.the-variants as Opening
 use Rattle.layout.specs.Reading.{Shaped, answer, opened, shapeOf}
 use Rattle.layout.proofs.Range.{shape-good}
-use Rattle.layout.proofs.Opening.{answer-good, answer-refused, open-good, open-passed, open-refused, open-shaped, passed-open}
+use Rattle.layout.proofs.Opening.{answer-good, answer-opened, answer-refused, open-good, open-passed, open-refused, open-shaped}
 use Rattle.log.specs.Targets.{allFit, read}
 use Rattle.log.proofs.Targets.{all-fit-is}
 use Rattle.stage.proofs.View.{staged-good}
@@ -144,7 +144,7 @@ module _ (g : Given) {s : Shape} (e : answer (first (recordTests g)) (shapeIn (g
 
   pub record-opened : opened (g .pool) ≡ Opening.Good s
   unfolding recordTests
-  record-opened = passed-open (g .pool) (passed-left (openTests (g .pool)) _ record-passed) ∙ ap Opening.Good (answer-good (first (recordTests g)) (shapeIn (g .pool)) s e .1)
+  record-opened = answer-opened (g .pool) _ e
 
   pub record-shaped : Shaped (g .pool) (shapeOf s)
   record-shaped = open-shaped (g .pool) s record-opened

@@ -1,12 +1,12 @@
--- Laws of parts and stores: what a part of a store holds, and a store within a store. Assumes nothing.
+-- Laws of parts and stores: what a part of a store holds. Assumes nothing.
 use Prim.Native.Nat.{ℕ, zero, suc, _+_, _≤_}
 use mathlib.Core.Path.{_≡_, refl, sym, ap, _∙_}
 use mathlib.Core.List.{List, [], _∷_, _++_, append-assoc}
 use native.Mathlib.Nat.{add-zero}
 use native.Mathlib.Omega.{arith}
 use lib.ListN.{length, take, drop, set, length-drop, length-set, take-append-drop}
-use lib.Seq.{sets, sets-eq, length-sets, length-take-le, take-all, take-append-le, drop-append-le, drop-at, drop-drop, set-out, take-add}
-use Rattle.rules.proofs.Sets.{sets-append, sets-mid}
+use lib.Seq.{sets, sets-eq, length-take-le, take-all, take-append-le, drop-append-le, drop-at, drop-drop, set-out, take-add}
+use Rattle.rules.proofs.Sets.{sets-append}
 
 pub part-length : (l : List ℕ) (a n : ℕ) → a + n ≤ length l → length (take n (drop a l)) ≡ n
 part-length l a n h = length-take-le n (drop a l) (rw (length-drop a l) (omega arith))
@@ -27,16 +27,6 @@ part-stored l a vs o n h k =
     ∙ ap (take n) (sym (drop-drop o a (take a l ++ (vs ++ drop (a + length vs) l))) ∙ ap (drop o) (drop-at (take a l) (vs ++ drop (a + length vs) l) a (length-take-le a l (omega arith)))
     ∙ drop-append-le o vs (drop (a + length vs) l) (omega arith))
     ∙ take-append-le n (drop o vs) (drop (a + length vs) l) (rw (length-drop o vs) (omega arith))
-
--- a store within what was stored
-pub stored-sets : (l : List ℕ) (a : ℕ) (vs : List ℕ) (o : ℕ) (us : List ℕ) → a + length vs ≤ length l → o + length us ≤ length vs
-    → sets (sets l a vs) (a + o) us ≡ sets l a (sets vs o us)
-stored-sets l a vs o us h k =
-    let e = length-sets vs o us in
-    ap (λ (x : List ℕ). sets x (a + o) us) (stored l a vs h)
-    ∙ sets-mid (take a l) vs (drop (a + length vs) l) a o us (length-take-le a l (omega arith)) k
-    ∙ ap (λ (n : ℕ). take a l ++ (sets vs o us ++ drop (a + n) l)) (sym e)
-    ∙ sym (stored l a (sets vs o us) (omega arith))
 
 -- a part stored where it lies changes nothing
 pub sets-own : (l : List ℕ) (a n : ℕ) → a + n ≤ length l → sets l a (take n (drop a l)) ≡ l

@@ -1,14 +1,16 @@
 -- The lines of the pool, zone by zone, and their number. Assumes nothing.
 use Prim.Native.Nat.{ℕ, _+_, _-_, _*_, _≤_, _<_}
-use mathlib.Core.Path.{_≡_, ap, _∙_}
+use mathlib.Core.Path.{_≡_, refl, ap, _∙_}
 use mathlib.Core.List.{List, _++_}
 use native.Mathlib.Nat.{le-refl, mul-assoc, mul-le-mul, mul-le-mul-right, sub-zero, suc-mul}
 use native.Mathlib.Numerals.{add-one}
 use native.Mathlib.Omega.{arith}
 use lib.ListN.{length}
-use Rattle.rules.specs.Shape.{Shape as PoolShape, poolSize, zoneCells}
+use Rattle.rules.specs.Shape.{Shape as PoolShape, zoneAt, zoneCells, zoneSize}
 use Rattle.rules.specs.Scan.{zonesText}
 use Rattle.rules.proofs.Numbers.{less}
+use Rattle.rules.proofs.Shape.{zone-end}
+use Rattle.rules.proofs.Format.{zone-size}
 use Rattle.layout.specs.declared.Shape.{Shape}
 use Rattle.layout.specs.Reading.{Shaped, shapeOf}
 use Rattle.layout.proofs.Range.{shape-good}
@@ -16,7 +18,7 @@ use Rattle.zones.specs.Found.{ZoneIs}
 use Rattle.zones.proofs.Searching.{walk-in}
 use Rattle.zones.proofs.Shaped.{address-bound}
 use Rattle.print.specs.Put.{Put}
-use Rattle.print.proofs.Put.{Putting, putting-end, putting-start, putting-step}
+use Rattle.print.proofs.Put.{Putting, put-as, putting-end, putting-start, putting-step}
 use Rattle.scan.specs.Lined.{zoneText}
 
 pub record ListingZones (s : PoolShape) (v l : List ℕ) (a : ℕ) (l′ : List ℕ) (r z : ℕ) : Type 0 where
@@ -39,7 +41,7 @@ module _ {s : PoolShape} {v l : List ℕ} {a : ℕ} {l′ : List ℕ} {r z : ℕ
         putting = putting-step (rw t at (i .putting)) q;
       }
 
-  pub zones-end : s .zones ≤ z → Put (64 * (s .zones * zoneCells s)) l a (zonesText s v 0 (s .zones)) l′ r
+  zones-end : s .zones ≤ z → Put (64 * (s .zones * zoneCells s)) l a (zonesText s v 0 (s .zones)) l′ r
   unfolding zonesText
   zones-end h =
       let e : z ≡ s .zones = omega (arith, i .within) in
@@ -60,11 +62,13 @@ module _ (s : Shape) {p : List ℕ} (g : Shaped p (shapeOf s)) where
       omega (arith, i .most)
 
   -- a pool of at most 65,536 bytes has at most 952 cells
-  pub cells-few : length p ≤ 65536 → s .zones * zoneCells (shapeOf s) ≤ 952
-  unfolding poolSize zoneCells
+  cells-few : length p ≤ 65536 → s .zones * zoneCells (shapeOf s) ≤ 952
+  unfolding zoneAt
   cells-few h =
-      let a : s .rows ≤ s .rows + 1 = omega arith in
-      let b : s .zones * (s .rows * s .cols) ≤ s .zones * ((s .rows + 1) * s .cols) = mul-le-mul (le-refl (s .zones)) (mul-le-mul-right (s .cols) a) in
-      let c = mul-assoc (s .zones) (s .rows + 1) (s .cols) in
-      let d = mul-assoc (s .zones) (s .rows * s .cols) 4 in
-      omega (arith, g .size)
+      let k = shape-good s (g .range) in
+      let c : zoneCells (shapeOf s) * 64 ≤ zoneSize (shapeOf s) = omega (arith, zone-size (shapeOf s) k) in
+      let d = mul-le-mul (le-refl (s .zones)) c in
+      omega (arith, g .size, k .page-min, zone-end (shapeOf s) k, mul-assoc (s .zones) (zoneCells (shapeOf s)) 64)
+
+  pub zones-put : {l : List ℕ} {a : ℕ} {l′ : List ℕ} {r z : ℕ} → length p ≤ 65536 → ListingZones (shapeOf s) p l a l′ r z → s .zones ≤ z → Put 60928 l a (zonesText (shapeOf s) p 0 (s .zones)) l′ r
+  zones-put h i e = put-as (zones-end i e) refl (omega (arith, cells-few h))

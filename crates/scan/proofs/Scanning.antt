@@ -2,27 +2,27 @@
 use Prim.Native.Nat.{ℕ, zero, suc, _+_, _*_, _≤_, _<_}
 use mathlib.Core.Path.{_≡_, ap, _∙_}
 use mathlib.Core.Bool.{Bool, not}
-use mathlib.Core.List.{List, _++_}
+use mathlib.Core.List.{List}
 use native.Mathlib.Nat.{mul-le-mul, zero-add}
 use native.Mathlib.Omega.{arith}
 use lib.ListN.{length}
 use lib.Seq.{sets}
 use borrow.Author.Tests.{le-ltb, lt-ltb}
 use Rattle.rules.specs.Words.{ascii}
-use Rattle.rules.specs.Shape.{Shape as PoolShape}
 use Rattle.rules.specs.Test.{first}
 use Rattle.rules.specs.Header.{shapeIn}
 use Rattle.rules.specs.Seals.{readTests}
 use Rattle.rules.specs.Scrub.{columnRight, countTo, sumTo, wrongColumns}
 use Rattle.rules.specs.Scan.{concludeScan, poolText, poolscan, scanTests, zonesText}
 use Rattle.rules.proofs.Bool.{split}
-use Rattle.rules.proofs.Header.{range-ranged}
 use Rattle.layout.specs.declared.Shape.{Shape}
 use Rattle.layout.specs.declared.Opened.the-variants as Opening
-use Rattle.layout.specs.Reading.{InRange, answer, shapeOf}
+use Rattle.layout.specs.Reading.{InRange, Shaped, answer, shapeOf}
+use Rattle.layout.proofs.Range.{bounds}
 use Rattle.layout.proofs.Opening.{answer-refused, open-good}
 use Rattle.opening.proofs.Reading.{read-none, read-opened}
 use Rattle.print.specs.Put.{Put, betweenText, pairText}
+use Rattle.print.proofs.Put.{put-as, put-then}
 use Rattle.scan.proofs.Lines.{columns-line, pool-line}
 
 -- ---- the ways out
@@ -47,15 +47,7 @@ pub scan-put : {k : ℕ} {l t l′ : List ℕ} {r : ℕ} (p : List ℕ) → Put 
     → ((r ≡ length (poolscan p)) × (l′ ≡ sets l 0 (poolscan p))) × (r ≤ 65536)
 scan-put {l = l} p q e h = ((q .ends ∙ zero-add _ ∙ ap length e, q .stored ∙ ap (sets l 0) e), omega (arith, q .most))
 
--- ---- the text of a pool
-
-pub pool-text : (sh : PoolShape) (p : List ℕ) {n : ℕ} → n ≡ wrongColumns sh p
-    → (pairText (ascii "(pool ") (sh .rows) (sh .cols) ++ betweenText (ascii " ") (sh .zones) (ascii ")\n")) ++ (zonesText sh p 0 (sh .zones) ++ betweenText (ascii "(columns (off ") n (ascii "))\n"))
-    ≡ poolText sh p
-unfolding poolText
-pool-text sh p {n} e = rw (pool-line sh, columns-line n, e)
-
--- ---- columns with wrong parity are few
+-- ---- zones, and columns with wrong parity, are few
 
 count-le : (n : ℕ) (f : ℕ → Bool) → countTo n f ≤ n
 unfolding countTo
@@ -67,10 +59,25 @@ unfolding sumTo
 sum-le zero k f h = omega arith
 sum-le (suc n) k f h = omega (arith, sum-le n k f h, h n)
 
-pub columns-few : (s : Shape) → InRange (shapeOf s) → (p : List ℕ) → wrongColumns (shapeOf s) p ≤ 16 * 64
+columns-few : (s : Shape) → InRange (shapeOf s) → (p : List ℕ) → wrongColumns (shapeOf s) p ≤ 16 * 64
 unfolding wrongColumns
 columns-few s r p =
-    let g = range-ranged (shapeOf s) r in
+    let g = bounds s r in
     let a = sum-le (s .zones) (s .cols) (λ z. countTo (s .cols) (λ c. not (columnRight (shapeOf s) p z c))) (λ z. count-le (s .cols) (λ c. not (columnRight (shapeOf s) p z c))) in
     let b : s .zones * s .cols ≤ 16 * 64 = mul-le-mul (g .zones-high) (g .cols-high) in
     omega arith
+
+pub zones-low : (s : Shape) {p : List ℕ} → Shaped p (shapeOf s) → s .zones < 10000000000
+zones-low s g = omega (arith, bounds s (g .range) .zones-high)
+
+pub columns-low : (s : Shape) {p : List ℕ} {n : ℕ} → Shaped p (shapeOf s) → n ≡ wrongColumns (shapeOf s) p → n < 10000000000
+columns-low s {p} g e = omega (arith, columns-few s (g .range) p)
+
+-- ---- the text of a pool, line by line
+
+pub pool-put : (s : Shape) (p : List ℕ) {l l₁ l₂ l₃ l₄ : List ℕ} {r₁ r₂ r₃ n r₄ : ℕ} → Put 27 l 0 (pairText (ascii "(pool ") (s .rows) (s .cols)) l₁ r₁
+    → Put 13 l₁ r₁ (betweenText (ascii " ") (s .zones) (ascii ")\n")) l₂ r₂ → Put 60928 l₂ r₂ (zonesText (shapeOf s) p 0 (s .zones)) l₃ r₃ → n ≡ wrongColumns (shapeOf s) p
+    → Put 27 l₃ r₃ (betweenText (ascii "(columns (off ") n (ascii "))\n")) l₄ r₄ → Put 65536 l 0 (poolText (shapeOf s) p) l₄ r₄
+unfolding poolText
+pool-put s p {n = n} size zone zones e columns =
+    put-as (put-then (put-then size zone) (put-then zones columns)) (rw (pool-line (shapeOf s), columns-line n, e)) (omega arith)

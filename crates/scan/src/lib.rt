@@ -4,7 +4,6 @@ ghost use mathlib.Core.List.{[]};
 ghost use Prim.Native.Nat.{_+_, _*_, _%_, _<_, _≤_};
 ghost use lib.ListN.{length};
 ghost use lib.Seq.{sets};
-ghost use Rattle.rules.specs.Shape.{zoneCells};
 ghost use Rattle.rules.specs.Runs.{free};
 ghost use Rattle.rules.specs.Scan.{brokenLine, poolscan, poolText, runLine, zonesText};
 ghost use Rattle.stage.specs.View.{part, Staged};
@@ -140,8 +139,8 @@ fn put_zone(pool: &[u8], out: &mut [u8], at: usize, zone: Zone, z: usize) -> usi
 
 // The lines of all zones.
 fn put_zones(pool: &[u8], out: &mut [u8], at: usize, s: Shape) -> usize
-    requires { ⌜ (at ≤ 64) × Shaped (now pool) (shapeOf s) ⌝ }
-    ensures { λ r. ⌜ Put (64 * (s .zones * zoneCells (shapeOf s))) (now (out .entry)) at (zonesText (shapeOf s) (now (pool .entry)) 0 (s .zones)) (now (out .exit)) r ⌝ }
+    requires { ⌜ (at ≤ 64) × (length (now pool) ≤ 65536) × Shaped (now pool) (shapeOf s) ⌝ }
+    ensures { λ r. ⌜ Put 60928 (now (out .entry)) at (zonesText (shapeOf s) (now (pool .entry)) 0 (s .zones)) (now (out .exit)) r ⌝ }
 {
     let zones = s.zones;
     let mut to = at;

@@ -10,38 +10,41 @@ use Rattle.pool.proofs.fill_zones.Statement.{statement}
 use Rattle.pool.proofs.fill_zones.Tie as tie
 
 abbrev Inv-loop : tie.InvT-loop
-Inv-loop pool₀ s zones cells z₀ pool z = Filling (shapeOf s) pool₀ pool z
+Inv-loop pool₀ s zones cells head z₀ pool z = Filling (shapeOf s) pool₀ pool z
 
 abbrev μ-loop : tie.MeasureT-loop
-μ-loop pool₀ s zones cells z₀ pool z = zones - z
+μ-loop pool₀ s zones cells head z₀ pool z = zones - z
 
 cells-requires : tie.Need-cells-requires Inv-loop μ-loop
 cells-requires c κs = search needs
 
+free-head-requires : tie.Need-free-head-requires Inv-loop μ-loop
+free-head-requires c κs = search needs
+
 loop-holds : tie.Need-loop-holds Inv-loop μ-loop
-loop-holds c = let s = c .before .before in filling-start (shapeOf (s .args .s)) (s .args .pool .now) (s .pre .1)
+loop-holds c = let s = c .before .before .before in filling-start (shapeOf (s .args .s)) (s .args .pool .now) (s .pre .1)
 
 zone-at-requires : tie.Need-zone-at-requires Inv-loop μ-loop
 zone-at-requires c κs = search needs
 
 -- both heads lie in the pool
-room : (c : tie.After-zone-at Inv-loop μ-loop) → c .zone-at .result + 64 * c .before .before .before .cells .result + 16 ≤ length (c .before .before .loop .pool)
+room : (c : tie.After-zone-at Inv-loop μ-loop) → c .zone-at .result + 64 * c .before .before .before .before .cells .result + 16 ≤ length (c .before .before .loop .pool)
 room c =
-    let s = c .before .before .before .before .before in
+    let s = c .before .before .before .before .before .before in
     let l = c .before .before .loop in
-    omega (arith, zone-room (shapeOf (s .args .s)) (shape-good (s .args .s) (s .pre .0)) (l .z) (search needs), l .inv .length-is, c .zone-at .ensures, c .before .before .before .cells .ensures)
+    omega (arith, zone-room (shapeOf (s .args .s)) (shape-good (s .args .s) (s .pre .0)) (l .z) (search needs), l .inv .length-is, c .zone-at .ensures, c .before .before .before .before .cells .ensures)
 
-put-free-head-requires : tie.Need-put-free-head-requires Inv-loop μ-loop
-put-free-head-requires c κs = (omega (arith, room (c .before)), search needs)
+put-head-requires : tie.Need-put-head-requires Inv-loop μ-loop
+put-head-requires c κs = omega (arith, room (c .before))
 
-mul-put-free-head : tie.Need-mul-put-free-head Inv-loop μ-loop
-mul-put-free-head c = search needs
+mul-put-head : tie.Need-mul-put-head Inv-loop μ-loop
+mul-put-head c = search needs
 
-add-put-free-head : tie.Need-add-put-free-head Inv-loop μ-loop
-add-put-free-head c = omega (arith, room (c .before .before .before .before .before))
+add-put-head : tie.Need-add-put-head Inv-loop μ-loop
+add-put-head c = omega (arith, room (c .before .before .before .before .before))
 
-put-free-head-requires-2 : tie.Need-put-free-head-requires-2 Inv-loop μ-loop
-put-free-head-requires-2 c κs = (omega (arith, room (c .before .before .before .before .before), c .before .before .before .put-free-head .kept .0), search needs)
+put-head-requires-2 : tie.Need-put-head-requires-2 Inv-loop μ-loop
+put-head-requires-2 c κs = omega (arith, room (c .before .before .before .before .before), c .before .before .before .put-head .kept .0)
 
 add-z : tie.Need-add-z Inv-loop μ-loop
 add-z c = search needs
@@ -52,8 +55,8 @@ loop-less c = search needs
 loop-again : tie.Need-loop-again Inv-loop μ-loop
 loop-again c =
     let z = c .before .before .before .before .before .before .before .before in
-    filling-step (z .before .before .loop .inv) (search needs) (z .zone-at .ensures .0) (z .before .before .before .cells .ensures .0)
-    (c .before .before .before .before .before .before .put-free-head .ensures) (c .before .before .put-free-head2 .ensures)
+    filling-step (z .before .before .loop .inv) (search needs) (z .zone-at .ensures .0) (z .before .before .before .before .cells .ensures .0)
+    (z .before .before .before .free-head .ensures) (c .before .before .before .before .before .before .put-head .ensures) (c .before .before .put-head2 .ensures)
 
 same-length : tie.Need-same-length Inv-loop μ-loop
 same-length c = search needs
@@ -68,12 +71,13 @@ fill-zones-spec =
     Inv-loop
     μ-loop
     cells-requires
+    free-head-requires
     loop-holds
     zone-at-requires
-    put-free-head-requires
-    mul-put-free-head
-    add-put-free-head
-    put-free-head-requires-2
+    put-head-requires
+    mul-put-head
+    add-put-head
+    put-head-requires-2
     add-z
     loop-less
     loop-again

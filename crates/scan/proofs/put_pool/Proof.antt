@@ -1,9 +1,6 @@
 -- `scan::put_pool` meets its contract. Assumes nothing.
-use Rattle.layout.specs.Reading.{shapeOf}
-use Rattle.rules.proofs.Header.{range-ranged}
-use Rattle.print.proofs.Put.{put-as, put-then}
-use Rattle.scan.proofs.ListingZones.{cells-few}
-use Rattle.scan.proofs.Scanning.{columns-few, pool-text}
+use Rattle.layout.proofs.Range.{bounds}
+use Rattle.scan.proofs.Scanning.{columns-low, pool-put, zones-low}
 use native.Mathlib.Omega.{arith}
 use borrow.Author.Needs.{needs}
 use Rattle.scan.proofs.put_pool.Statement.{statement}
@@ -13,7 +10,7 @@ slice-aggregate-put-pair : tie.Need-slice-aggregate-put-pair
 slice-aggregate-put-pair c = search needs
 
 put-pair-requires : tie.Need-put-pair-requires
-put-pair-requires c κs = let s = c .before .before .before .before in let g = range-ranged (shapeOf (s .args .s)) (s .pre .1 .range) in (omega arith, omega arith, omega arith)
+put-pair-requires c κs = let s = c .before .before .before .before in let g = bounds (s .args .s) (s .pre .1 .range) in (omega arith, omega arith, omega arith)
 
 slice-aggregate-put-between : tie.Need-slice-aggregate-put-between
 slice-aggregate-put-between c = search needs
@@ -22,7 +19,7 @@ slice-aggregate-put-between-2 : tie.Need-slice-aggregate-put-between-2
 slice-aggregate-put-between-2 c = search needs
 
 put-between-requires : tie.Need-put-between-requires
-put-between-requires c κs = let s = c .before .before .before .before .before .before .before .before .before .before in let g = range-ranged (shapeOf (s .args .s)) (s .pre .1 .range) in (omega (arith, c .before .before .before .before .before .put-pair .ensures .most), omega arith)
+put-between-requires c κs = (search needs, search (needs, zones-low))
 
 put-zones-requires : tie.Need-put-zones-requires
 put-zones-requires c κs = search needs
@@ -37,19 +34,13 @@ slice-aggregate-put-between-4 : tie.Need-slice-aggregate-put-between-4
 slice-aggregate-put-between-4 c = search needs
 
 put-between-requires-2 : tie.Need-put-between-requires-2
-put-between-requires-2 c κs =
-    let s = c .before .before .before .before .before .before .before .before .before .before .before .before .before .before .before .before .before .before .before .before .before in
-    (omega (arith, c .before .before .before .before .before .before .put-zones .ensures .most, c .before .before .before .before .before .before .before .before .before .before .put-between .ensures .most, c .before .before .before .before .before .before .before .before .before .before .before .before .before .before .before .before .put-pair .ensures .most, cells-few (s .args .s) (s .pre .1) (s .pre .0)), omega (arith, c .before .wrong-columns .ensures, columns-few (s .args .s) (s .pre .1 .range) (s .args .pool .now)))
+put-between-requires-2 c κs = (search needs, search (needs, columns-low))
 
 same-length : tie.Need-same-length
 same-length c = search needs
 
 returns : tie.Need-returns
-returns c =
-    let s = c .before .before .before .before .before .before .before .before .before .before .before .before .before .before .before .before .before .before .before .before .before .before .before .before in
-    let line = put-then (c .before .before .before .before .before .before .before .before .before .before .before .before .before .before .before .before .before .before .before .put-pair .ensures) (c .before .before .before .before .before .before .before .before .before .before .before .before .before .put-between .ensures) in
-    let rest = put-then (c .before .before .before .before .before .before .before .before .before .put-zones .ensures) (c .before .before .put-between2 .ensures) in
-    put-as (put-then line rest) (pool-text (shapeOf (s .args .s)) _ (c .before .before .before .before .wrong-columns .ensures)) (omega (arith, cells-few (s .args .s) (s .pre .1) (s .pre .0)))
+returns c = search (needs, pool-put)
 
 pub put-pool-spec : {M : Type 1} → statement M
 put-pool-spec =

@@ -2,8 +2,8 @@
 use Prim.Native.Nat.{_-_}
 use Rattle.layout.specs.Reading.{shapeOf}
 use Rattle.zones.proofs.Shaped.{staged-none, zone-inside}
-use Rattle.rules.proofs.Header.{range-ranged}
-use Rattle.scan.proofs.ListingZones.{ListingZones, place-small, zone-few, zones-end, zones-start, zones-step}
+use Rattle.layout.proofs.Range.{bounds}
+use Rattle.scan.proofs.ListingZones.{ListingZones, place-small, zone-few, zones-put, zones-start, zones-step}
 use borrow.Author.Needs.{needs}
 use native.Mathlib.Omega.{arith}
 use Rattle.scan.proofs.put_zones.Statement.{statement}
@@ -19,16 +19,16 @@ loop-holds : tie.Need-loop-holds Inv-loop μ-loop
 loop-holds c = zones-start _ _ _ _
 
 zone-requires : tie.Need-zone-requires Inv-loop μ-loop
-zone-requires c κs = (c .before .before .before .before .pre .1 .range, c .loop-test .taken)
+zone-requires c κs = (c .before .before .before .before .pre .2 .range, c .loop-test .taken)
 
 put-zone-requires : tie.Need-put-zone-requires Inv-loop μ-loop
 put-zone-requires c κs =
     let s = c .before .before .before .before .before .before in
-    let g = s .pre .1 in
+    let g = s .pre .2 in
     let e = c .before .zone .ensures in
     let k = c .before .before .loop-test .taken in
     let i = c .before .before .before .loop .inv in
-    (omega (arith, place-small (s .args .s) g i (s .pre .0), zone-few (s .args .s) g, e .cells-is), omega (arith, range-ranged (shapeOf (s .args .s)) (g .range) .zones-high), omega (arith, zone-few (s .args .s) g, e .cells-is), staged-none (s .args .s) g _, zone-inside (s .args .s) (g .range) (g .size) k e)
+    (omega (arith, place-small (s .args .s) g i (s .pre .0), zone-few (s .args .s) g, e .cells-is), omega (arith, bounds (s .args .s) (g .range) .zones-high), omega (arith, zone-few (s .args .s) g, e .cells-is), staged-none (s .args .s) g _, zone-inside (s .args .s) (g .range) (g .size) k e)
 
 add-z : tie.Need-add-z Inv-loop μ-loop
 add-z c = search needs
@@ -43,7 +43,7 @@ same-length : tie.Need-same-length Inv-loop μ-loop
 same-length c = c .before .loop .inv .putting .same-length
 
 returns : tie.Need-returns Inv-loop μ-loop
-returns c = zones-end (c .before .loop .inv) (c .loop-test .left)
+returns c = let s = c .before .before .before .before in zones-put (s .args .s) (s .pre .2) (s .pre .1) (c .before .loop .inv) (c .loop-test .left)
 
 pub put-zones-spec : {M : Type 1} → statement M
 put-zones-spec =

@@ -30,7 +30,7 @@ use Rattle.runs.specs.Spotted.{Joined, Spotted}
 use Rattle.objects.specs.declared.Named.{Named}
 use Rattle.objects.specs.declared.Named.the-variants.{Object, Refused}
 use Rattle.zones.specs.Found.{NamedAt, NamesAt, SpotAt, ZoneIs}
-use Rattle.zones.proofs.Shaped.{address-cell, address-zone, zone-inside}
+use Rattle.zones.proofs.Shaped.{address-cell, address-zone, cells-some, zone-inside}
 use Rattle.zones.proofs.Searching.{walk-in}
 use Rattle.zones.proofs.NamedAt.{spot-located}
 use Rattle.answers.specs.Planned.{Judged, Left, planned, stageEntries}
@@ -55,6 +55,15 @@ module _ (st : List ℕ) (n at cells : ℕ) {r : ℕ} (e : r ≡ missing 2 at (e
 
 -- ---- the object named
 
+-- what is known of an object that is named, once its zone is: N cells a zone, and the zone's place and cells
+pub record Known (s : Shape) (p st : List ℕ) (n a N from cells : ℕ) : Type 0 where
+  pub judged : Judged (shapeOf s) p st n
+  pub cells-is : N ≡ zoneCells (shapeOf s)
+  pub zone-is : ZoneIs (shapeOf s) (a / N) from cells
+  pub passed : first (objectTests (shapeOf s) (seen p st n) a) ≡ none
+  pub named : NamedRun (shapeOf s) (seen p st n) a
+  pub zoned : Zoned p from cells
+
 module _ (s : Shape) {p st : List ℕ} {n : ℕ} (j : Judged (shapeOf s) p st n) (a : ℕ) (r : Named) (e : NamesAt (shapeOf s) (seen p st n) a r) where
   pub free-refused : {k : ℕ} → r ≡ Refused k → record { answer = refused k; staging = st; count = n } ≡ planned (shapeOf s) p st n (release a)
   unfolding plan
@@ -71,38 +80,43 @@ module _ (s : Shape) {p st : List ℕ} {n : ℕ} (j : Judged (shapeOf s) p st n)
       pub free-zone : a / N < s .zones
       free-zone = address-zone s (j .shaped .range) f (rw f (named .below))
 
-      module _ {from cells : ℕ} (z : ZoneIs (shapeOf s) (a / N) from cells) where
-        pub free-zoned : Zoned p from cells
-        free-zoned = zone-inside s (j .shaped .range) (j .shaped .size) free-zone z
+      pub free-known : {from cells : ℕ} → ZoneIs (shapeOf s) (a / N) from cells → Known s p st n a N from cells
+      free-known z = record { judged = j; cells-is = f; zone-is = z; passed = passed; named = named; zoned = zone-inside s (j .shaped .range) (j .shaped .size) free-zone z }
 
-        pub free-cell : a % N < cells
-        free-cell = address-cell s (j .shaped .range) a f (z .cells-is)
+pub free-some : (s : Shape) {p st : List ℕ} {n N : ℕ} → Judged (shapeOf s) p st n → N ≡ zoneCells (shapeOf s) → 0 < N
+free-some s j f = omega (arith, cells-some s (j .shaped .range))
 
-        pub free-whole : walkOf (seen p st n) from cells .whole ≡ true
-        free-whole = rw (← (walk-in (seen p st n) z), f) (named .whole)
+-- ---- and its zone
 
-        pub free-spotted : {w : Bool} {b k : ℕ} {g : Bool} → SpotAt (shapeOf s) (seen p st n) a w b k g → Spotted (seen p st n) from cells (a % N) b k g
-        free-spotted x =
-            let d = spot-located (shapeOf s) (seen p st n) a f z (rw f (named .below)) x in
-            d .spotted (d .whole-is ∙ free-whole)
+module _ {s : Shape} {p st : List ℕ} {n a N from cells : ℕ} (k : Known s p st n a N from cells) where
+  pub free-cell : a % N < cells
+  free-cell = address-cell s (k .judged .shaped .range) a (k .cells-is) (k .zone-is .cells-is)
 
-        pub free-there : runAt (a % N) 0 (walkOf (seen p st n) from cells .runs) ≡ none → ⊥
-        unfolding runThere
-        free-there h =
-            let g : runThere (shapeOf s) (seen p st n) a ≡ none = rw (← f, walk-in (seen p st n) z) h in
-            let k = named .found in
-            let y : _≡_ {A = ℕ} 0 1 = cc in omega arith
+  pub free-whole : walkOf (seen p st n) from cells .whole ≡ true
+  free-whole = rw (← (walk-in (seen p st n) (k .zone-is)), k .cells-is) (k .named .whole)
 
-        module _ {cell count : ℕ} (d : Joined (seen p st n) from cells (a % N) cell count) where
-          pub free-low : from + 64 * cell + 16 < 2 ^ 32
-          free-low = let x = free-zoned .inside in let y = size-bounds s (j .shaped .range) .1 in let w = d .within in omega (arith, j .shaped .size)
+  pub free-spotted : {w : Bool} {b m : ℕ} {g : Bool} → SpotAt (shapeOf s) (seen p st n) a w b m g → Spotted (seen p st n) from cells (a % N) b m g
+  free-spotted x =
+      let d = spot-located (shapeOf s) (seen p st n) a (k .cells-is) (k .zone-is) (rw (k .cells-is) (k .named .below)) x in
+      d .spotted (d .whole-is ∙ free-whole)
 
-          pub free-small : count < 65536
-          free-small = let g = shape-good s (j .shaped .range) .runs in let w = d .within in omega (arith, z .cells-is)
+  pub free-there : runAt (a % N) 0 (walkOf (seen p st n) from cells .runs) ≡ none → ⊥
+  unfolding runThere
+  free-there h =
+      let g : runThere (shapeOf s) (seen p st n) a ≡ none = rw (← (k .cells-is), walk-in (seen p st n) (k .zone-is)) h in
+      let f = k .named .found in
+      let y : _≡_ {A = ℕ} 0 1 = cc in omega arith
 
-          pub free-taken : {x : Left} → x ≡ stageEntries st n taken (touchWords 2 (from + 64 * cell) (freeHead count) (entriesOf st n)) → x ≡ planned (shapeOf s) p st n (release a)
-          unfolding plan touchJoined joinedAt
-          free-taken h =
-              let w = walk-in (seen p st n) z in
-              let x : joined (a % N) 0 0 (walkOf (seen p st n) from cells .runs) ≡ joinedAt (shapeOf s) (seen p st n) a = rw (← w, f) in
-              h ∙ rw (d .cell-is ∙ ap (λ (y : Place). y .cell) x, d .count-is ∙ ap (λ (y : Place). y .count) x, z .from-is, f) (planned-passed (shapeOf s) p st n (release a) passed)
+  module _ {cell count : ℕ} (d : Joined (seen p st n) from cells (a % N) cell count) where
+    pub free-low : from + 64 * cell + 16 < 2 ^ 32
+    free-low = let y = size-bounds s (k .judged .shaped .range) .1 in omega (arith, k .zoned .inside, d .within, k .judged .shaped .size)
+
+    pub free-small : count < 65536
+    free-small = let g = shape-good s (k .judged .shaped .range) .runs in omega (arith, d .within, k .zone-is .cells-is)
+
+    pub free-taken : {x : Left} → x ≡ stageEntries st n taken (touchWords 2 (from + 64 * cell) (freeHead count) (entriesOf st n)) → x ≡ planned (shapeOf s) p st n (release a)
+    unfolding plan touchJoined joinedAt
+    free-taken h =
+        let w = walk-in (seen p st n) (k .zone-is) in
+        let x : joined (a % N) 0 0 (walkOf (seen p st n) from cells .runs) ≡ joinedAt (shapeOf s) (seen p st n) a = rw (← w, k .cells-is) in
+        h ∙ rw (d .cell-is ∙ ap (λ (y : Place). y .cell) x, d .count-is ∙ ap (λ (y : Place). y .count) x, k .zone-is .from-is, k .cells-is) (planned-passed (shapeOf s) p st n (release a) (k .passed))

@@ -21,6 +21,13 @@ use Rattle.pool.specs.declared.Outcome.the-variants.{Done, Refused}
 use Rattle.pool.specs.Reading.{changed}
 use Rattle.opening.proofs.Reading.{read-none, read-opened, read-shaped}
 
+-- the pool opened for the shape s, and masks that every test passes
+pub record Tested (p ms : List ℕ) (s : Shape) : Type 0 where
+  pub opens : answer (first (readTests p)) (shapeIn p) ≡ Opening.Good s
+  pub masks : length ms ≡ s .zones * s .cols
+  pub above : anyAbove (shapeOf s) ms ≡ false
+  pub two : anyTwo ms ≡ false
+
 module _ (p : List ℕ) where
   pub columns-small : {s : Shape} → answer (first (readTests p)) (shapeIn p) ≡ Opening.Good s → s .zones * s .cols ≤ 16 * 64
   columns-small {s} e = let g = bounds s (read-shaped p e .range) in mul-le-mul (g .zones-high) (g .cols-high)
@@ -50,7 +57,7 @@ module _ (p : List ℕ) where
       unfolding repair repairTests first concludePool
       repair-two x y h a f b t = rw (first-right (readTests p) _ passed, ← same, eq-eqb (length ms) (s .zones * s .cols) h, ← a, f, ← b, t)
 
-      pub repair-done : (x y : Bool) (q : List ℕ) → length ms ≡ s .zones * s .cols → x ≡ anyAbove (shapeOf s) ms → x ≡ false → y ≡ anyTwo ms → y ≡ false
-          → q ≡ repaired (shapeOf s) ms p → changed Done q ≡ repair p ms
-      unfolding repair repairTests first concludePool
-      repair-done x y q h a f b g r = rw (first-right (readTests p) _ passed, ← same, eq-eqb (length ms) (s .zones * s .cols) h, ← a, f, ← b, g, r)
+pub repair-done : {p ms : List ℕ} {s : Shape} {q : List ℕ} → Tested p ms s → q ≡ repaired (shapeOf s) ms p → changed Done q ≡ repair p ms
+unfolding repair repairTests first concludePool
+repair-done {p} {ms} {s} t r =
+    rw (first-right (readTests p) _ (passed p ms (t .opens)), ← (same p ms (t .opens)), eq-eqb (length ms) (s .zones * s .cols) (t .masks), t .above, t .two, r)

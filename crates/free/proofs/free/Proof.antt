@@ -1,6 +1,5 @@
 -- `free::free` meets its contract. Assumes nothing.
-use Rattle.zones.proofs.Shaped.{cells-some}
-use Rattle.free.proofs.Freeing.{free-cell, free-low, free-refused, free-small, free-spotted, free-taken, free-there, free-whole, free-zone, free-zoned}
+use Rattle.free.proofs.Freeing.{Known, free-cell, free-known, free-low, free-refused, free-small, free-some, free-spotted, free-taken, free-there, free-whole, free-zone}
 use native.Mathlib.Omega.{arith}
 use borrow.Author.Needs.{needs}
 use Rattle.free.proofs.free.Statement.{statement}
@@ -22,74 +21,52 @@ cells-requires : tie.Need-cells-requires
 cells-requires c κs = search needs
 
 div-zone : tie.Need-div-zone
-div-zone c =
-    let s = c .before .before .before .before .before .before .before .before .before in
-    omega (arith, cells-some (s .args .s) (s .pre .shaped .range), c .cells .ensures .0)
+div-zone c = search (needs, free-some)
 
 zone-requires : tie.Need-zone-requires
-zone-requires c κs =
-    let s = c .before .before .before .before .before .before .before .before .before in
-    let o = c .before .before .before .object-in in
-    let q = c .before .enum-told .given .1 in
-    let f = c .cells .ensures .0 in
-    (s .pre .shaped .range, free-zone (s .args .s) (s .pre) (s .args .a) (o .result) (o .ensures) q f)
+zone-requires c κs = let q = c .before .enum-told .given .1 in search (needs, free-zone)
+
+known : (c : tie.After-zone)
+    → let a = c .before .before .before .before .before .before .before .before .before .before .args in
+    Known (a .s) (a .pool .now) (a .staging .now) (a .count) (a .a) (c .before .cells .result) (c .zone .result .from) (c .zone .result .cells)
+known c =
+    let o = c .before .before .before .before in
+    let s = o .before .before .before .before .before .before in
+    free-known (s .args .s) (s .pre) (s .args .a) (o .object-in .result) (o .object-in .ensures) (c .before .before .enum-told .given .1) (c .before .cells .ensures .0) (c .zone .ensures)
 
 rem-joined : tie.Need-rem-joined
-rem-joined c =
-    let s = c .before .before .before .before .before .before .before .before .before .before .before in
-    omega (arith, cells-some (s .args .s) (s .pre .shaped .range), c .before .before .cells .ensures .0)
+rem-joined c = let k = known (c .before) in free-some _ (k .judged) (k .cells-is)
 
 joined-requires : tie.Need-joined-requires
 joined-requires c κs =
-    let s = c .before .before .before .before .before .before .before .before .before .before .before in
-    let o = c .before .before .before .before .before .object-in in
-    let q = c .before .before .before .enum-told .given .1 in
-    let f = c .before .before .cells .ensures .0 in
-    let z = c .before .zone .ensures in
-    (s .pre .staged, free-zoned (s .args .s) (s .pre) (s .args .a) (o .result) (o .ensures) q f z, free-cell (s .args .s) (s .pre) (s .args .a) (o .result) (o .ensures) q f z, free-whole (s .args .s) (s .pre) (s .args .a) (o .result) (o .ensures) q f z, free-there (s .args .s) (s .pre) (s .args .a) (o .result) (o .ensures) q f z, free-spotted (s .args .s) (s .pre) (s .args .a) (o .result) (o .ensures) q f z (c .before .before .before .before .before .before .before .spot-at .ensures))
+    let k = known (c .before) in
+    (k .judged .staged, k .zoned, free-cell k, free-whole k, free-there k, free-spotted k (c .before .before .before .before .before .before .before .spot-at .ensures))
 
 mul-touch-free : tie.Need-mul-touch-free
 mul-touch-free c = search needs
 
 add-touch-free : tie.Need-add-touch-free
-add-touch-free c =
-    let s = c .before .before .before .before .before .before .before .before .before .before .before .before .before .before in
-    let o = c .before .before .before .before .before .before .before .before .object-in in
-    let q = c .before .before .before .before .before .before .enum-told .given .1 in
-    let f = c .before .before .before .before .before .cells .ensures .0 in
-    let z = c .before .before .before .before .zone .ensures in
-    let low = free-low (s .args .s) (s .pre) (s .args .a) (o .result) (o .ensures) q f z (c .before .before .joined .ensures) in
-    search needs
+add-touch-free c = omega (arith, free-low (known (c .before .before .before .before)) (c .before .before .joined .ensures))
 
 touch-free-requires : tie.Need-touch-free-requires
 touch-free-requires c κs =
-    let s = c .before .before .before .before .before .before .before .before .before .before .before .before .before .before in
-    let o = c .before .before .before .before .before .before .before .before .object-in in
-    let q = c .before .before .before .before .before .before .enum-told .given .1 in
-    let f = c .before .before .before .before .before .cells .ensures .0 in
-    let z = c .before .before .before .before .zone .ensures in
+    let k = known (c .before .before .before .before) in
     let j = c .before .before .joined .ensures in
-    (s .pre .few, s .pre .room, omega (arith, free-low (s .args .s) (s .pre) (s .args .a) (o .result) (o .ensures) q f z j), free-small (s .args .s) (s .pre) (s .args .a) (o .result) (o .ensures) q f z j, s .pre .staged .tidy)
+    (k .judged .few, k .judged .room, omega (arith, free-low k j), free-small k j, k .judged .staged .tidy)
 
 same-length : tie.Need-same-length
 same-length c = search needs
 
 returns : tie.Need-returns
-returns c =
-    let s = c .before .before .before .before .before .before .before .before .before in
-    let o = c .before .before .before .object-in in
-    free-refused (s .args .s) (s .pre) (s .args .a) (o .result) (o .ensures) (c .before .n .given .1)
+returns c = let q = c .before .n .given .1 in search (needs, free-refused)
 
 same-length-2 : tie.Need-same-length-2
 same-length-2 c = search needs
 
 returns-2 : tie.Need-returns-2
 returns-2 c =
-    let s = c .before .before .before .before .before .before .before .before .before .before .before .before .before .before .before .before .before in
-    let o = c .before .before .before .before .before .before .before .before .before .before .before .object-in in
-    let q = c .before .before .before .before .before .before .before .before .before .enum-told .given .1 in
-    let f = c .before .before .before .before .before .before .before .before .cells .ensures .0 in
-    free-taken (s .args .s) (s .pre) (s .args .a) (o .result) (o .ensures) q f (c .before .before .before .before .before .before .before .zone .ensures) (c .before .before .before .before .before .joined .ensures) (c .before .before .touch-free .ensures)
+    let j = c .before .before .before .before .before in
+    free-taken (known (j .before .before)) (j .joined .ensures) (c .before .before .touch-free .ensures)
 
 pub free-spec : {M : Type 1} → statement M
 free-spec =

@@ -1,7 +1,12 @@
 -- `pool::repair` meets its contract. Assumes nothing.
-use mathlib.Core.Path.{sym, _∙_}
+use mathlib.Core.Path.{_≡_, sym, _∙_}
+use Rattle.rules.specs.Test.{first}
+use Rattle.rules.specs.Header.{shapeIn}
+use Rattle.rules.specs.Seals.{readTests}
+use Rattle.layout.specs.declared.Opened.the-variants.{Good}
+use Rattle.layout.specs.Reading.{answer}
 use Rattle.opening.proofs.Reading.{read-shaped}
-use Rattle.pool.proofs.Repairing.{columns-small, repair-above, repair-done, repair-length, repair-refused, repair-two}
+use Rattle.pool.proofs.Repairing.{Tested, columns-small, repair-above, repair-done, repair-length, repair-refused, repair-two}
 use native.Mathlib.Omega.{arith}
 use borrow.Author.Needs.{needs}
 use Rattle.pool.proofs.repair.Statement.{statement}
@@ -16,23 +21,29 @@ enum-known-n c = search needs
 enum-known-s : tie.Need-enum-known-s
 enum-known-s c = search needs
 
+opens : (c : tie.After-s)
+    → let p = c .before .before .before .before .before .before .args .pool .now in answer (first (readTests p)) (shapeIn p) ≡ Good (c .s .given .0 .0)
+opens c = sym (c .before .before .quiet .ensures) ∙ c .s .given .1
+
 mul-if1 : tie.Need-mul-if1
-mul-if1 c = omega (arith, columns-small _ (sym (c .before .before .before .before .quiet .ensures) ∙ c .before .before .s .given .1))
+mul-if1 c = omega (arith, columns-small _ (opens (c .before .before)))
 
 same-length : tie.Need-same-length
 same-length c = search needs
 
 returns : tie.Need-returns
-returns c = repair-length _ _ (sym (c .before .before .before .before .before .quiet .ensures) ∙ c .before .before .before .s .given .1) (c .if1 .taken)
+returns c = repair-length _ _ (opens (c .before .before .before)) (c .if1 .taken)
 
 any-above-requires : tie.Need-any-above-requires
-any-above-requires c κs = read-shaped _ (sym (c .before .before .before .before .before .quiet .ensures) ∙ c .before .before .before .s .given .1) .range
+any-above-requires c κs = read-shaped _ (opens (c .before .before .before)) .range
 
 same-length-2 : tie.Need-same-length-2
 same-length-2 c = search needs
 
 returns-2 : tie.Need-returns-2
-returns-2 c = repair-above _ _ (sym (c .before .before .before .before .before .before .before .quiet .ensures) ∙ c .before .before .before .before .before .s .given .1) _ (c .before .before .if1 .left) (c .before .any-above .ensures) (c .if2 .taken)
+returns-2 c =
+    let l = c .before .before in
+    repair-above _ _ (opens (l .before .before .before)) _ (l .if1 .left) (c .before .any-above .ensures) (c .if2 .taken)
 
 any-two-requires : tie.Need-any-two-requires
 any-two-requires c κs = search needs
@@ -41,10 +52,22 @@ same-length-3 : tie.Need-same-length-3
 same-length-3 c = search needs
 
 returns-3 : tie.Need-returns-3
-returns-3 c = repair-two _ _ (sym (c .before .before .before .before .before .before .before .before .before .quiet .ensures) ∙ c .before .before .before .before .before .before .before .s .given .1) _ _ (c .before .before .before .before .if1 .left) (c .before .before .before .any-above .ensures) (c .before .before .if2 .left) (c .before .any-two .ensures) (c .if3 .taken)
+returns-3 c =
+    let a = c .before .before .before in
+    let l = a .before in
+    repair-two _ _ (opens (l .before .before .before)) _ _ (l .if1 .left) (a .any-above .ensures) (c .before .before .if2 .left) (c .before .any-two .ensures) (c .if3 .taken)
+
+tested : (c : tie.After-repair-pages-arg)
+    → let o = c .before .before .before .before .before .before .before .before in
+    let a = o .before .before .before .before .before .before .args in Tested (a .pool .now) (a .lost .now) (o .s .given .0 .0)
+tested c =
+    let t = c .before .before in
+    let a = t .before .before in
+    let l = a .before in
+    record { opens = opens (l .before .before .before); masks = l .if1 .left; above = sym (a .any-above .ensures) ∙ t .before .if2 .left; two = sym (t .any-two .ensures) ∙ c .before .if3 .left }
 
 repair-pages-requires : tie.Need-repair-pages-requires
-repair-pages-requires c κs = let g = read-shaped _ (sym (c .before .before .before .before .before .before .before .before .before .before .quiet .ensures) ∙ c .before .before .before .before .before .before .before .before .s .given .1) in (g .range, g .size, c .before .before .before .before .before .if1 .left, sym (c .before .before .before .before .any-above .ensures) ∙ c .before .before .before .if2 .left, sym (c .before .before .any-two .ensures) ∙ c .before .if3 .left)
+repair-pages-requires c κs = let t = tested c in let g = read-shaped _ (t .opens) in (g .range, g .size, t .masks, t .above, t .two)
 
 same-length-4 : tie.Need-same-length-4
 same-length-4 c = search needs
@@ -56,7 +79,7 @@ same-length-5 : tie.Need-same-length-5
 same-length-5 c = search needs
 
 returns-5 : tie.Need-returns-5
-returns-5 c = repair-done _ _ (sym (c .before .before .before .before .before .before .before .before .before .before .before .before .before .quiet .ensures) ∙ c .before .before .before .before .before .before .before .before .before .before .before .s .given .1) _ _ _ (c .before .before .before .before .before .before .before .before .if1 .left) (c .before .before .before .before .before .before .before .any-above .ensures) (c .before .before .before .before .before .before .if2 .left) (c .before .before .before .before .before .any-two .ensures) (c .before .before .before .before .if3 .left) (c .before .before .repair-pages .ensures)
+returns-5 c = repair-done (tested (c .before .before .before)) (c .before .before .repair-pages .ensures)
 
 pub repair-spec : {M : Type 1} → statement M
 repair-spec =

@@ -1,5 +1,5 @@
 -- The free run for a body by the tests 6, 23, 26, inside its zone; and what allocate leaves. Assumes nothing.
-use Prim.Native.Nat.{ℕ, _+_, _-_, _*_, _≤_, _<_}
+use Prim.Native.Nat.{ℕ, _+_, _-_, _*_, _^_, _≤_, _<_}
 use mathlib.Core.Path.{_≡_, refl, sym, ap, ap₂, _∙_}
 use mathlib.Core.Bool.{Bool, true}
 use mathlib.Core.Option.{some}
@@ -16,7 +16,6 @@ use Rattle.rules.specs.Staging.{Store}
 use Rattle.rules.specs.Answer.{address, refused}
 use Rattle.rules.specs.Zones.{walkIn, zoneData}
 use Rattle.rules.specs.Plan.{Fit, allocate, fitAddress, fitTest, fitted, plan, search, touchObject}
-use Rattle.rules.proofs.Header.{range-ranged}
 use Rattle.rules.proofs.Laid.{laid-length, zone-laid}
 use Rattle.rules.proofs.Search.{fit-bound}
 use Rattle.rules.proofs.Calls.{search-inv}
@@ -25,7 +24,7 @@ use Rattle.zones.specs.declared.Found.{Found}
 use Rattle.zones.specs.declared.Found.the-variants.{At, Refused}
 use Rattle.layout.specs.Reading.{InRange, shapeOf}
 use Rattle.layout.specs.declared.Shape.{Shape as LayoutShape}
-use Rattle.layout.proofs.Range.{shape-good, size-bounds}
+use Rattle.layout.proofs.Range.{bounds, shape-good, size-bounds}
 use Rattle.stage.specs.View.{entriesOf, seen}
 use Rattle.answers.specs.Planned.{Left, planned, stageEntries}
 use Rattle.answers.proofs.Planned.{planned-passed, planned-refused}
@@ -73,12 +72,12 @@ pub fit-at : {s : Shape} {v : List ℕ} {m z c n : ℕ} (r : Found) → FitsBody
 fit-at r f e = rw e at f
 
 module _ (s : LayoutShape) (i : InRange (shapeOf s)) {v : List ℕ} {m z c n : ℕ} (f : FitAt (shapeOf s) v m z c n) where
-  pub fit-small : (z ≤ s .zones) × (c + n < 65536) × (poolSize (shapeOf s) ≤ 4198912)
-  fit-small = (omega (arith, f .zone-lt), omega (arith, f .inside, shape-good s i .runs), size-bounds s i .1)
+  pub fit-small : (z ≤ s .zones) × (c + n < 65536) × (poolSize (shapeOf s) < 2 ^ 32)
+  fit-small = (omega (arith, f .zone-lt), omega (arith, f .inside, shape-good s i .runs), omega (arith, size-bounds s i))
 
   pub address-small : {k : ℕ} → k ≡ zoneCells (shapeOf s) → z * k ≤ 16 * 65536
   address-small {k} q =
-      let a : z ≤ 16 = omega (arith, f .zone-lt, range-ranged (shapeOf s) i .zones-high) in
+      let a : z ≤ 16 = omega (arith, f .zone-lt, bounds s i .zones-high) in
       let b : k ≤ 65536 = omega (arith, q, shape-good s i .runs) in
       mul-le-mul a b
 

@@ -53,7 +53,7 @@ fn touch_body(
     body: &[u8],
     known: bool,
 ) -> usize
-    requires { ⌜ Room (now staging) count words target × (words ≤ 64) × (target + 512 < 2 ^ 64) × (known ≡ true → missing words target (entriesOf (now staging) count) ≡ words) ⌝ }
+    requires { ⌜ Room (now staging) count words target × (words ≤ 64) × (target + 8 * words < 2 ^ 64) × (known ≡ true → missing words target (entriesOf (now staging) count) ≡ words) ⌝ }
     ensures { λ r. ⌜ TouchedWords (now (staging .entry)) count words target (now (body .entry)) (now (staging .exit)) r ⌝ }
 {
     let fresh = stage::all_fresh(staging, count, target, words, known);

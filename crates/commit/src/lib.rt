@@ -1,8 +1,7 @@
 // Commit by steps (01, "Commit, cut, recovery"): what its start and each step answer, the record then, and the step made.
 ghost use mathlib.Core.Path.{_≡_};
 ghost use mathlib.Core.Bool.{not, _&&_};
-ghost use Prim.Native.Nat.{_+_, _≤_, _<_};
-ghost use lib.ListN.{length};
+ghost use Prim.Native.Nat.{_+_, _<_};
 ghost use lib.Dec.{eqb};
 ghost use Rattle.rules.specs.Header.{shapeIn};
 ghost use Rattle.rules.specs.Test.{first};
@@ -10,7 +9,7 @@ ghost use Rattle.rules.specs.Seals.{unsealed};
 ghost use Rattle.rules.specs.Staging.{commitLength};
 ghost use Rattle.rules.specs.Calls.{recordTests};
 ghost use Rattle.powercut.specs.Commit.{commitStep};
-ghost use Rattle.layout.specs.Reading.{answer, InRange, shapeOf};
+ghost use Rattle.layout.specs.Reading.{answer, InRange, Shaped, shapeOf};
 ghost use Rattle.layout.specs.declared.Opened.the-variants.{Good};
 ghost use Rattle.steps.specs.Actions.{Ready};
 ghost use Rattle.record.specs.Reading.{given};
@@ -52,7 +51,7 @@ pub fn start(txn: Record) -> Stepped
 
 // Whether this is the first step and a seal is not zero.
 fn sealed(s: Shape, pool: &[u8], k: usize) -> bool
-    requires { ⌜ 4608 ≤ length (now pool) ⌝ }
+    requires { ⌜ Shaped (now pool) (shapeOf s) ⌝ }
     ensures { λ r. ⌜ r ≡ (eqb k 0 && not (unsealed (shapeOf s) (now (pool .entry)))) ⌝ }
 {
     if k == 0 {

@@ -10,7 +10,7 @@ use lib.Dec.{eqb, leb}
 use borrow.Author.Tests.{eq-eqb, ne-eqb, le-leb, lt-leb}
 use Rattle.rules.specs.Words.{Bytes, digits, word}
 use Rattle.rules.specs.Check.{check}
-use Rattle.rules.specs.Shape.{Shape as PoolShape}
+use Rattle.rules.specs.Shape.{Shape as PoolShape, logA, logB}
 use Rattle.rules.specs.Staging.{entriesAt, entryBytes}
 use Rattle.rules.specs.Seals.{unsealed}
 use Rattle.rules.proofs.Parts.{take-more}
@@ -90,11 +90,11 @@ module _ (sh : PoolShape) (p : List ℕ) (b w n : ℕ) (ew : Loaded 8 p b w) (en
 
 -- ---- both seals
 
-module _ (s : Shape) (p : List ℕ) (a : ℕ) (ea : Loaded 8 p 512 a) where
+module _ (s : Shape) (p : List ℕ) (m a : ℕ) (em : m ≡ logA (shapeOf s)) (ea : Loaded 8 p m a) where
   pub seal-first : (a ≡ 0 → ⊥) → false ≡ unsealed (shapeOf s) p
   unfolding unsealed
-  seal-first h = rw (← (loaded-word ea), ne-eqb a 0 h)
+  seal-first h = rw (← em, ← (loaded-word ea), ne-eqb a 0 h)
 
-  pub seal-second : (b : ℕ) → a ≡ 0 → Loaded 8 p 2560 b → eqb b 0 ≡ unsealed (shapeOf s) p
+  pub seal-second : (n b : ℕ) → a ≡ 0 → n ≡ logB (shapeOf s) → Loaded 8 p n b → eqb b 0 ≡ unsealed (shapeOf s) p
   unfolding unsealed
-  seal-second b h eb = rw (← (loaded-word ea), eq-eqb a 0 h, ← (loaded-word eb))
+  seal-second n b h en eb = rw (← em, ← (loaded-word ea), eq-eqb a 0 h, ← en, ← (loaded-word eb))

@@ -3,7 +3,7 @@ use mathlib.Core.Path.{_≡_, refl, sym, ap, ap₂, _∙_}
 use mathlib.Core.Bool.{Bool, true, false, not, _&&_}
 use mathlib.Core.List.{List, [], _∷_}
 use Prim.Native.Nat.{ℕ, zero, suc, _+_, _*_, _-_, _/_, _%_, _<_, _≤_}
-use native.Mathlib.Nat.{div-div-eq-div-mul, mul-comm, mul-le-mul-right}
+use native.Mathlib.Nat.{div-div-eq-div-mul, mul-comm, mul-le-mul-right, mul-pos}
 use native.Mathlib.Numerals.{add-one}
 use native.Mathlib.Omega.{arith}
 use lib.Dec.{eqb, leb, ltb}
@@ -11,16 +11,16 @@ use lib.ListN.{length, getD, set, length-set}
 use lib.Seq.{getD-set-same, getD-set-other}
 use borrow.Author.Tests.{eq-eqb, eqb-true, ne-eqb, le-leb, leb-true, ltb-true, lt-ltb, not-true, not-false}
 use Rattle.rules.specs.Words.{word}
-use Rattle.rules.specs.Shape.{Shape as PoolShape, byteAt, poolSize, row, zone, zoneAt, zoneCells, zonesAt}
+use Rattle.rules.specs.Shape.{Shape as PoolShape, byteAt, poolSize, row, rowSize, zone, zoneAt, zoneCells, zoneSize, zonesAt}
 use Rattle.rules.specs.Check.{check}
 use Rattle.rules.specs.Staging.{Store, entriesAt, entryBytes, goodTargets}
 use Rattle.rules.proofs.Bool.{and-split, split}
-use Rattle.rules.proofs.Shape.{Good, cell-self, off-lt, row-in-zone, zone-below, zone-cells, zone-end, zone-low}
+use Rattle.rules.proofs.Shape.{Good, cell-self, off-lt, row-in-zone, span-pos, zone-below, zone-cells, zone-end, zone-low}
 use Rattle.words.specs.Loaded.{Loaded}
 use Rattle.layout.specs.declared.Shape.{Shape}
 use Rattle.layout.specs.Reading.{InRange, shapeOf}
 use Rattle.layout.proofs.Range.{shape-good}
-use Rattle.log.specs.Targets.{DataRows, RowsFor, absentFrom, allFit, checkOf, fits, markOf, read}
+use Rattle.log.specs.Targets.{DataRows, RowsFor, absentFrom, allFit, checkOf, fits, markCount, markOf, read}
 
 abbrev pub entry : List ℕ → ℕ → Store
 entry p a = record { at = word p a; val = word p (a + 8) }
@@ -129,31 +129,37 @@ module _ (s : Shape) (t : ℕ) where
   none-for : (fits (shapeOf s) t ≡ true → ⊥) → RowsFor (shapeOf s) t 0 0
   none-for f = record { rows = record { inside = λ u l h e. absurd (omega arith) }; around = λ e. absurd (f e) }
 
-  pub rows-low : t < 4608 → RowsFor (shapeOf s) t 0 0
-  rows-low h = none-for (λ e. let r = fits-row (shapeOf s) t e in omega arith)
+  pub rows-low : (m : ℕ) → m ≡ zonesAt (shapeOf s) → t < m → RowsFor (shapeOf s) t 0 0
+  rows-low m f h = none-for (λ e. let r = fits-row (shapeOf s) t e in omega arith)
 
   pub rows-high : (z : ℕ) → z ≡ poolSize (shapeOf s) → z ≤ t → RowsFor (shapeOf s) t 0 0
   rows-high z f h = none-for (λ e. let r = fits-row (shapeOf s) t e in omega arith)
 
-  module _ (g : InRange (shapeOf s)) (z : ℕ) (l : 4608 ≤ t) (f : z ≡ poolSize (shapeOf s)) (h : t < z) where
-    zone-is : (t - 4608) / ((s .rows + 1) * (s .cols * 256)) ≡ zone (shapeOf s) t
+  -- m where the zones begin, z where they end, d bytes of a zone
+  module _ (g : InRange (shapeOf s)) (m z d : ℕ) (em : m ≡ zonesAt (shapeOf s)) (l : m ≤ t) (f : z ≡ poolSize (shapeOf s)) (h : t < z) (ed : d ≡ zoneSize (shapeOf s)) where
+    zone-is : (t - m) / d ≡ zone (shapeOf s) t
     unfolding zone
-    zone-is = ap (λ (x : ℕ). (t - 4608) / x) (mul-comm (s .rows + 1) (s .cols * 256)) ∙ sym (div-div-eq-div-mul (t - 4608) (s .cols * 256) (s .rows + 1))
+    zone-is =
+        rw (em, ed)
+        (ap (λ (x : ℕ). (t - zonesAt (shapeOf s)) / x) (mul-comm (s .rows + 1) (rowSize (shapeOf s))) ∙ sym (div-div-eq-div-mul (t - zonesAt (shapeOf s)) (rowSize (shapeOf s)) (s .rows + 1)))
 
     zone-inside : zone (shapeOf s) t < s .zones
-    zone-inside = zone-below (shapeOf s) (shape-good s g) t l (omega arith)
+    zone-inside = zone-below (shapeOf s) (shape-good s g) t (omega arith) (omega arith)
 
-    pub zone-fits : (t - 4608) / ((s .rows + 1) * (s .cols * 256)) ≤ s .zones
+    pub zone-some : 0 < d
+    zone-some = rw ed (mul-pos (omega arith) (span-pos (shapeOf s) (shape-good s g)))
+
+    pub zone-fits : (t - m) / d ≤ s .zones
     zone-fits = let e = zone-is in let k = zone-inside in omega arith
 
-    pub rows-zone : (a b n : ℕ) → a ≡ zoneAt (shapeOf s) ((t - 4608) / ((s .rows + 1) * (s .cols * 256))) → n ≡ zoneCells (shapeOf s) → b ≡ a + 64 * n
+    pub rows-zone : (a b n : ℕ) → a ≡ zoneAt (shapeOf s) ((t - m) / d) → n ≡ zoneCells (shapeOf s) → b ≡ a + 64 * n
         → RowsFor (shapeOf s) t a b
     rows-zone a b n p q w =
         let x : a ≡ zoneAt (shapeOf s) (zone (shapeOf s) t) = p ∙ ap (zoneAt (shapeOf s)) zone-is in
         let y : b ≡ zoneAt (shapeOf s) (zone (shapeOf s) t) + 64 * zoneCells (shapeOf s) = omega arith in
         rw (x, y) (record {
           rows = record { inside = rows-fit (shapeOf s) (shape-good s g) (zone (shapeOf s) t) zone-inside };
-          around = λ e. row-around (shapeOf s) (shape-good s g) t l (fits-row (shapeOf s) t e .3);
+          around = λ e. row-around (shapeOf s) (shape-good s g) t (omega arith) (fits-row (shapeOf s) t e .3);
         })
 
 -- where they are at hand, t fits if it is a multiple of 8 in them
@@ -181,7 +187,7 @@ rows-none sh = record { inside = λ u l h e. absurd (omega arith) }
 -- those from number i on fit and none repeats; a target whose mark is 0 is none of theirs
 pub record Passed (sh : PoolShape) (p : List ℕ) (at n i : ℕ) (marks : List ℕ) (low high : ℕ) : Type 0 where
   pub inside : i ≤ n
-  pub size : length marks ≡ 256
+  pub size : length marks ≡ markCount
   pub rows : DataRows sh low high
   pub unmarked : (t : ℕ) → getD marks (markOf t) 0 ≡ 0 → absentFrom t (read p (at + 16 * i) (n - i)) ≡ true
   pub fit : allFit sh (read p (at + 16 * i) (n - i)) ≡ true
@@ -201,7 +207,7 @@ module _ (sh : PoolShape) (p : List ℕ) (at n : ℕ) where
       none true false x z = refl
       none false b x z = refl
 
-  pub passed-start : (marks : List ℕ) → length marks ≡ 256 → Passed sh p at n n marks 0 0
+  pub passed-start : (marks : List ℕ) → length marks ≡ markCount → Passed sh p at n n marks 0 0
   unfolding allFit absentFrom
   passed-start marks m =
       let e = read-none p at n n (omega arith) in
@@ -244,7 +250,7 @@ module _ (sh : PoolShape) (p : List ℕ) (at n : ℕ) where
         pub passed-twice : not q ≡ true → false ≡ allFit sh (read p at n)
         passed-twice y = part-of (fit-before ∙ rw (← judged, ← v, not-false r z, not-true q y))
 
-        pub passed-on : (k : ℕ) → k ≡ markOf u → k < 256 → not q ≡ false → Passed sh p at n (i - 1) (set marks k 1) low′ high′
+        pub passed-on : (k : ℕ) → k ≡ markOf u → k < markCount → not q ≡ false → Passed sh p at n (i - 1) (set marks k 1) low′ high′
         unfolding absentFrom
         passed-on k b j y = record {
           inside = let l = h .inside in omega arith;

@@ -35,6 +35,9 @@ pub record RowsFor (sh : Shape) (t low high : ℕ) : Type 0 where
   pub rows : DataRows sh low high
   pub around : fits sh t ≡ true → (low ≤ t) × (t < high)
 
--- The mark that stands for the target t, of 256.
+-- Targets share 256 marks; the one that stands for the target t.
+abbrev pub markCount : ℕ
+markCount = 256
+
 unfoldable pub markOf : ℕ → ℕ
-markOf t = t / 8 % 65536 * 40503 / 256 % 256
+markOf t = t / 8 % 65536 * 40503 / markCount % markCount

@@ -5,10 +5,14 @@ ghost use Prim.Native.Nat.{_+_, _*_, _%_, _^_, _≤_, _<_};
 ghost use lib.Dec.{eqb, leb, ltb};
 ghost use lib.ListN.{length};
 ghost use Rattle.rules.specs.Seals.{unsealed};
-ghost use Rattle.layout.specs.Reading.{InRange, shapeOf};
+ghost use Rattle.layout.specs.Reading.{InRange, Shaped, shapeOf};
 ghost use Rattle.powercut.specs.Log.{countIn, sealOf, valid as validLog};
-ghost use Rattle.log.specs.Targets.{DataRows, RowsFor, absentFrom, allFit, checkOf, markOf, read};
+ghost use Rattle.log.specs.Places.{LogAt};
+ghost use Rattle.log.specs.Targets.{DataRows, RowsFor, absentFrom, allFit, checkOf, markCount, markOf, read};
 use layout::Shape;
+
+// The marks that targets share.
+const MARKS: usize = 256;
 
 // Places from `low` up to `high`: data rows of one zone, or none.
 struct Rows {
@@ -22,14 +26,14 @@ fn zone_rows(s: Shape, t: u64) -> Rows
     ensures { λ r. ⌜ RowsFor (shapeOf s) t (r .low) (r .high) ⌝ }
 {
     let a = t as usize;
-    if a < 18 * Shape::PAGE {
+    let from = s.zones_at();
+    if a < from {
         return Rows { low: 0, high: 0 };
     }
     if s.size() <= a {
         return Rows { low: 0, high: 0 };
     }
-    let z = (a - 18 * Shape::PAGE) / ((s.rows + 1) * (s.cols * Shape::PAGE));
-    let low = s.zone_at(z);
+    let low = s.zone_at((a - from) / s.zone_size());
     Rows {
         low: low as u64,
         high: (low + 64 * s.cells()) as u64,
@@ -90,9 +94,9 @@ fn absent_marked(p: &[u8], at: usize, n: usize, t: u64, mark: u8) -> bool
 
 // The mark of the target `t`, by Fibonacci hashing of its word's number: words in a row and heads at even distances seldom share one.
 fn mark_of(t: u64) -> usize
-    ensures { λ r. ⌜ (r ≡ markOf t) × (r < 256) ⌝ }
+    ensures { λ r. ⌜ (r ≡ markOf t) × (r < markCount) ⌝ }
 {
-    (t / 8 % 65536 * 40503 / 256 % 256) as usize
+    t as usize / 8 % 65536 * 40503 / MARKS % MARKS
 }
 
 // Whether the targets of the `n` entries at `at` fit and none repeats. From the last to the first: each entry passed has set its target's
@@ -101,7 +105,7 @@ pub fn targets_fit(s: Shape, p: &[u8], at: usize, n: usize) -> bool
     requires { ⌜ (InRange (shapeOf s)) × (at + 16 * n ≤ length (now p)) ⌝ }
     ensures { λ r. ⌜ r ≡ allFit (shapeOf s) (read (now (p .entry)) at n) ⌝ }
 {
-    let mut marks = [0u8; 256];
+    let mut marks = [0u8; MARKS];
     let mut rows = Rows { low: 0, high: 0 };
     let mut i = n;
     while i > 0 {
@@ -145,7 +149,7 @@ pub fn count(w: u64) -> usize
 
 // Whether the log at `b` is valid.
 pub fn valid(s: Shape, p: &[u8], b: usize) -> bool
-    requires { ⌜ (InRange (shapeOf s)) × (b + 2048 ≤ length (now p)) ⌝ }
+    requires { ⌜ Shaped (now p) (shapeOf s) × LogAt (shapeOf s) b ⌝ }
     ensures { λ r. ⌜ r ≡ validLog (shapeOf s) (now (p .entry)) b ⌝ }
 {
     let w = words::load64(p, b);
@@ -167,11 +171,13 @@ pub fn valid(s: Shape, p: &[u8], b: usize) -> bool
 
 // Whether both seals are zero.
 pub fn seals_zero(s: Shape, p: &[u8]) -> bool
-    requires { ⌜ 4608 ≤ length (now p) ⌝ }
+    requires { ⌜ Shaped (now p) (shapeOf s) ⌝ }
     ensures { λ r. ⌜ r ≡ unsealed (shapeOf s) (now (p .entry)) ⌝ }
 {
-    if words::load64(p, 2 * Shape::PAGE) != 0 {
+    let a = s.log_a();
+    let b = s.log_b();
+    if words::load64(p, a) != 0 {
         return false;
     }
-    words::load64(p, 10 * Shape::PAGE) == 0
+    words::load64(p, b) == 0
 }

@@ -1,10 +1,9 @@
 -- A pool opened for reading, way out by way out; and what a caller knows of it. Assumes nothing.
-use Prim.Native.Nat.{ℕ, _≤_}
+use Prim.Native.Nat.{ℕ}
 use mathlib.Core.Path.{_≡_, ap, _∙_}
 use mathlib.Core.Bool.{Bool, true, false}
 use mathlib.Core.Option.{none}
 use mathlib.Core.List.{List, [], _∷_}
-use lib.ListN.{length}
 use Rattle.rules.specs.Test.{first}
 use Rattle.rules.specs.Header.{openTests, shapeIn}
 use Rattle.rules.specs.Seals.{readTests, sealTest, unsealed}
@@ -12,12 +11,9 @@ use Rattle.rules.proofs.Test.{first-left, first-passed, first-right, passed-lef
 use Rattle.layout.specs.declared.Shape.{Shape}
 use Rattle.layout.specs.declared.Opened.the-variants as Opening
 use Rattle.layout.specs.Reading.{Shaped, answer, opened, shapeOf}
-use Rattle.layout.proofs.Opening.{answer-good, open-good, open-passed, open-refused, open-shaped, passed-open, shaped-room}
+use Rattle.layout.proofs.Opening.{answer-good, open-good, open-passed, open-refused, open-shaped, passed-open}
 
 module _ (p : List ℕ) where
-  pub quiet-room : (s : Shape) → opened p ≡ Opening.Good s → 4608 ≤ length p
-  quiet-room s e = shaped-room p s (open-shaped p s e)
-
   pub quiet-refused : (n : ℕ) → opened p ≡ Opening.Refused n → Opening.Refused n ≡ answer (first (readTests p)) (shapeIn p)
   unfolding readTests answer
   quiet-refused n e = rw (first-left (openTests p) (sealTest p ∷ []) n (open-refused p n e))

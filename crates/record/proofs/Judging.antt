@@ -21,7 +21,7 @@ use Rattle.layout.specs.declared.Shape.{Shape}
 use Rattle.layout.specs.declared.Opened.the-variants as Opening
 use Rattle.layout.specs.Reading.{Shaped, answer, opened, shapeOf}
 use Rattle.layout.proofs.Range.{shape-good}
-use Rattle.layout.proofs.Opening.{answer-good, answer-refused, open-good, open-passed, open-refused, open-shaped, passed-open, shaped-room}
+use Rattle.layout.proofs.Opening.{answer-good, answer-refused, open-good, open-passed, open-refused, open-shaped, passed-open}
 use Rattle.log.specs.Targets.{allFit, read}
 use Rattle.log.proofs.Targets.{all-fit-is}
 use Rattle.stage.proofs.View.{staged-good}
@@ -178,9 +178,6 @@ module _ (g : Given) {s : Shape} (e : answer (first (recordTests g)) (shapeIn (g
       record { shaped = record-shaped; staged = staged-good (shapeOf s) (g .pool) (g .staging) (g .txn .count) b (k .2) (record-shaped .size) (shape-good s (record-shaped .range)) h; few = k .0; room = r }
 
   -- ---- then 29, 21
-
-  pub seals-room : 4608 ≤ length (g .pool)
-  seals-room = shaped-room (g .pool) s record-shaped
 
   judged : first (recordTests g ++ liveTests g) ≡ first (liveTests g)
   judged = first-right (recordTests g) (liveTests g) record-passed

@@ -4,7 +4,8 @@ use mathlib.Core.Path.{_≡_, refl}
 use mathlib.Core.Bool.{Bool, true, false}
 use mathlib.Core.List.{List}
 use borrow.Author.Tests.{eq-eqb, ne-eqb}
-use Rattle.rules.specs.Header.{openTests, shapeIn}
+use Rattle.rules.specs.Shape.{logA, logB}
+use Rattle.rules.specs.Header.{openTests}
 use Rattle.rules.proofs.Test.{passed-first}
 use Rattle.powercut.specs.Log.{countIn, valid}
 use Rattle.powercut.specs.Steps.{remedy}
@@ -25,32 +26,33 @@ use Rattle.recovery.specs.Advanced.{begun}
 
 -- ---- what is to be done
 
-module _ (s : Shape) (p : List ℕ) (a b : ℕ) (la : Loaded 8 p 512 a) (lb : Loaded 8 p 2560 b) (x : Bool) (ex : x ≡ valid (shapeOf s) p 512) where
-  pub find-a : (n : ℕ) → x ≡ true → n ≡ countIn a → workOf (ReplayA n) ≡ remedy (shapeOf s) p
+-- a and b: the words where the logs begin, at m and n
+module _ (s : Shape) (p : List ℕ) (m n a b : ℕ) (em : m ≡ logA (shapeOf s)) (en : n ≡ logB (shapeOf s)) (la : Loaded 8 p m a) (lb : Loaded 8 p n b) (x : Bool) (ex : x ≡ valid (shapeOf s) p m) where
+  pub find-a : (k : ℕ) → x ≡ true → k ≡ countIn a → workOf (ReplayA k) ≡ remedy (shapeOf s) p
   unfolding remedy
-  find-a n h f = rw (← ex, h, f, loaded-word la)
+  find-a k h f = rw (← em, ← ex, h, f, loaded-word la)
 
-  module _ (hx : x ≡ false) (y : Bool) (ey : y ≡ valid (shapeOf s) p 2560) where
-    pub find-b : (n : ℕ) → y ≡ true → n ≡ countIn b → workOf (ReplayB n) ≡ remedy (shapeOf s) p
+  module _ (hx : x ≡ false) (y : Bool) (ey : y ≡ valid (shapeOf s) p n) where
+    pub find-b : (k : ℕ) → y ≡ true → k ≡ countIn b → workOf (ReplayB k) ≡ remedy (shapeOf s) p
     unfolding remedy
-    find-b n h f = rw (← ex, hx, ← ey, h, f, loaded-word lb)
+    find-b k h f = rw (← em, ← en, ← ex, hx, ← ey, h, f, loaded-word lb)
 
     module _ (hy : y ≡ false) where
       pub find-nothing : a ≡ 0 → b ≡ 0 → workOf Nothing ≡ remedy (shapeOf s) p
       unfolding remedy
-      find-nothing ha hb = rw (← ex, hx, ← ey, hy, ← (loaded-word la), eq-eqb a 0 ha, ← (loaded-word lb), eq-eqb b 0 hb)
+      find-nothing ha hb = rw (← em, ← en, ← ex, hx, ← ey, hy, ← (loaded-word la), eq-eqb a 0 ha, ← (loaded-word lb), eq-eqb b 0 hb)
 
       pub find-only-b : a ≡ 0 → (b ≡ 0 → ⊥) → workOf Clear ≡ remedy (shapeOf s) p
       unfolding remedy
-      find-only-b ha hb = rw (← ex, hx, ← ey, hy, ← (loaded-word la), eq-eqb a 0 ha, ← (loaded-word lb), ne-eqb b 0 hb)
+      find-only-b ha hb = rw (← em, ← en, ← ex, hx, ← ey, hy, ← (loaded-word la), eq-eqb a 0 ha, ← (loaded-word lb), ne-eqb b 0 hb)
 
       pub find-only-a : (a ≡ 0 → ⊥) → b ≡ 0 → workOf Clear ≡ remedy (shapeOf s) p
       unfolding remedy
-      find-only-a ha hb = rw (← ex, hx, ← ey, hy, ← (loaded-word la), ne-eqb a 0 ha, ← (loaded-word lb), eq-eqb b 0 hb)
+      find-only-a ha hb = rw (← em, ← en, ← ex, hx, ← ey, hy, ← (loaded-word la), ne-eqb a 0 ha, ← (loaded-word lb), eq-eqb b 0 hb)
 
       pub find-neither : (a ≡ 0 → ⊥) → (b ≡ 0 → ⊥) → workOf Neither ≡ remedy (shapeOf s) p
       unfolding remedy
-      find-neither ha hb = rw (← ex, hx, ← ey, hy, ← (loaded-word la), ne-eqb a 0 ha, ← (loaded-word lb), ne-eqb b 0 hb)
+      find-neither ha hb = rw (← em, ← en, ← ex, hx, ← ey, hy, ← (loaded-word la), ne-eqb a 0 ha, ← (loaded-word lb), ne-eqb b 0 hb)
 
 -- ---- the reply
 

@@ -24,8 +24,10 @@ use Rattle.words.specs.Loaded.{Loaded}
 use Rattle.layout.specs.declared.Shape.{Shape}
 use Rattle.layout.specs.declared.Opened.the-variants as Opening
 use Rattle.layout.specs.Reading.{Shaped, opened, shapeOf}
-use Rattle.layout.proofs.Opening.{open-good, open-passed, open-refused, shaped-room}
+use Rattle.layout.proofs.Opening.{open-good, open-passed, open-refused}
+use Rattle.log.specs.Places.{LogAt}
 use Rattle.log.proofs.Targets.{loaded-word}
+use Rattle.log.proofs.Places.{log-room}
 use Rattle.steps.specs.declared.Action.{Action}
 use Rattle.steps.specs.Actions as Steps
 use Rattle.steps.proofs.Steps.{clear-step, computed-answer, computed-pool, ready-log, replay-step, told-answer}
@@ -70,10 +72,9 @@ place-past s p k w h = rw (le-ltb k (length (recoverySteps (shapeOf s) p w)) h) 
 -- ---- step k of a replay
 
 module _ (s : Shape) (p : List ℕ) (b n k : ℕ) where
-  pub replay-ready : (x : Bool) → Shaped p (shapeOf s) → b + 2048 ≤ 4608 → n ≤ entryLimit → x ≡ lostAt (shapeOf s) p b n k → x ≡ false → Steps.Ready (shapeOf s) p p (b + 16) n k
+  pub replay-ready : (x : Bool) → Shaped p (shapeOf s) → LogAt (shapeOf s) b → n ≤ entryLimit → x ≡ lostAt (shapeOf s) p b n k → x ≡ false → Steps.Ready (shapeOf s) p p (b + 16) n k
   replay-ready x h l f e u =
-      let r = shaped-room p s h in
-      ready-log (shapeOf s) p (h .size) b n k (omega arith) f (lost-kept s p b n k (rw e at u))
+      ready-log (shapeOf s) p (h .size) b n k (log-room s p h b l) f (lost-kept s p b n k (rw e at u))
 
   module _ (l : Log) (q : b ≡ logAt (shapeOf s) l) where
     impossible-replay : impossibleAt (shapeOf s) p (replay l n) k ≡ (ltb entryLimit n || (not (ltb k (2 * n + 5)) || lostAt (shapeOf s) p b n k))

@@ -1,11 +1,12 @@
 // Recovery by steps (01, "Commit, cut, recovery"): its record, its start and one step. Neither call has a `requires`: each answers for all
 // inputs, and its contract is one equation with the definition of that call, which gives the answer, the record and every byte of the pool.
 ghost use mathlib.Core.Path.{_≡_};
-ghost use Prim.Native.Nat.{_+_, _≤_};
+ghost use Prim.Native.Nat.{_≤_};
 ghost use Rattle.rules.specs.Shape.{entryLimit};
 ghost use Rattle.powercut.specs.Steps.{remedy};
 ghost use Rattle.powercut.specs.Recovery.{countAbove, recoveryStart, recoveryStep};
 ghost use Rattle.layout.specs.Reading.{Shaped, shapeOf};
+ghost use Rattle.log.specs.Places.{LogAt};
 ghost use Rattle.recovery.specs.Reading.{afterOf, recoveryOf, workOf};
 ghost use Rattle.recovery.specs.Advanced.{NextIs, ReplayIs, advanced, begun, lostAt, replied};
 use answers::Answer;
@@ -82,12 +83,14 @@ fn find(s: Shape, pool: &[u8]) -> Work
     requires { ⌜ Shaped (now pool) (shapeOf s) ⌝ }
     ensures { λ r. ⌜ workOf r ≡ remedy (shapeOf s) (now (pool .entry)) ⌝ }
 {
-    let a = words::load64(pool, 2 * Shape::PAGE);
-    let b = words::load64(pool, 10 * Shape::PAGE);
-    if log::valid(s, pool, 2 * Shape::PAGE) {
+    let at_a = s.log_a();
+    let at_b = s.log_b();
+    let a = words::load64(pool, at_a);
+    let b = words::load64(pool, at_b);
+    if log::valid(s, pool, at_a) {
         return Work::ReplayA(log::count(a));
     }
-    if log::valid(s, pool, 10 * Shape::PAGE) {
+    if log::valid(s, pool, at_b) {
         return Work::ReplayB(log::count(b));
     }
     if a == 0 {
@@ -182,8 +185,8 @@ fn next_step(work: Work, k: usize, s: Shape, pool: &[u8]) -> Next
     ensures { λ r. ⌜ NextIs (shapeOf s) (now (pool .entry)) (workOf work) k r ⌝ }
 {
     match work {
-        Work::ReplayA(n) => replay_step(s, pool, 2 * Shape::PAGE, n, k),
-        Work::ReplayB(n) => replay_step(s, pool, 10 * Shape::PAGE, n, k),
+        Work::ReplayA(n) => replay_step(s, pool, s.log_a(), n, k),
+        Work::ReplayB(n) => replay_step(s, pool, s.log_b(), n, k),
         Work::Clear => {
             if 3 <= k {
                 return Next::Impossible;
@@ -197,7 +200,7 @@ fn next_step(work: Work, k: usize, s: Shape, pool: &[u8]) -> Next
 
 // Step k of the replay of the log at `b` with the count `n`.
 fn replay_step(s: Shape, pool: &[u8], b: usize, n: usize, k: usize) -> Next
-    requires { ⌜ Shaped (now pool) (shapeOf s) × (b + 2048 ≤ 4608) ⌝ }
+    requires { ⌜ Shaped (now pool) (shapeOf s) × LogAt (shapeOf s) b ⌝ }
     ensures { λ r. ⌜ ReplayIs (shapeOf s) (now (pool .entry)) b n k r ⌝ }
 {
     if Shape::ENTRIES < n {
@@ -214,7 +217,7 @@ fn replay_step(s: Shape, pool: &[u8], b: usize, n: usize, k: usize) -> Next
 
 // Whether step k stores data or parity, or is the barrier after either, and the log at `b` is no longer valid with the count `n`.
 fn lost(s: Shape, pool: &[u8], b: usize, n: usize, k: usize) -> bool
-    requires { ⌜ Shaped (now pool) (shapeOf s) × (b + 2048 ≤ 4608) × (n ≤ entryLimit) ⌝ }
+    requires { ⌜ Shaped (now pool) (shapeOf s) × LogAt (shapeOf s) b × (n ≤ entryLimit) ⌝ }
     ensures { λ r. ⌜ r ≡ lostAt (shapeOf s) (now (pool .entry)) b n k ⌝ }
 {
     if 2 * n + 2 <= k {

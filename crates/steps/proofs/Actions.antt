@@ -6,9 +6,9 @@ use Prim.Native.Nat.{ℕ, zero, suc, _+_, _*_, _-_, _/_, _%_, _<_, _≤_}
 use native.Mathlib.Nat.{not-suc-le-zero, le-of-suc-le-suc}
 use native.Mathlib.Omega.{arith}
 use lib.ListN.{length, getD}
-use borrow.Author.Tests.{eq-eqb, ne-eqb}
+use borrow.Author.Tests.{eq-eqb, le-ltb, lt-ltb, ne-eqb}
 use Rattle.rules.specs.Words.{word}
-use Rattle.rules.specs.Shape.{InZones, Shape as PoolShape, logA, logB, parityAt, poolSize}
+use Rattle.rules.specs.Shape.{InZones, Shape as PoolShape, entryLimit, logA, logB, parityAt, poolSize, zonesAt}
 use Rattle.rules.specs.Staging.{noneAt, entriesAt}
 use Rattle.rules.specs.Parity.{parityWord}
 use Rattle.rules.proofs.Bool.{and-split}
@@ -19,8 +19,9 @@ use Rattle.powercut.specs.Commit.{madeAnswer}
 use Rattle.powercut.proofs.StepCount.{commit-log, commit-redo, commit-seal, none, redo-barrier, redo-data, redo-parity, redo-tail}
 use Rattle.words.specs.Loaded.{Loaded}
 use Rattle.layout.specs.declared.Shape.{Shape}
-use Rattle.layout.specs.Reading.{InRange, shapeOf}
-use Rattle.layout.proofs.Range.{shape-good, size-bounds}
+use Rattle.layout.specs.Reading.{InRange, Shaped, shapeOf}
+use Rattle.layout.proofs.Range.{shape-good}
+use Rattle.layout.proofs.Opening.{shaped-room}
 use Rattle.columns.specs.Column.{Word}
 use Rattle.log.specs.Targets.{allFit, fits, read}
 use Rattle.log.proofs.Targets.{entry, fits-row, loaded-word}
@@ -66,15 +67,15 @@ fits-in sh t e = let f = fits-row sh t e in record { low = f .1; high = f .2; ev
 
 module _ (s : Shape) (p src : List ℕ) (n k : ℕ) (h : k < 4 * n) where
   log-place : (r : ℕ) → r < 4 → k % 4 ≡ r
-      → logAction src k ≡ actionOf (shapeOf s) p (store (getD (logStores (shapeOf s) (k / 4) (entry src (0 + 16 * (k / 4)) ∷ [])) r none))
+      → logAction (shapeOf s) src k ≡ actionOf (shapeOf s) p (store (getD (logStores (shapeOf s) (k / 4) (entry src (0 + 16 * (k / 4)) ∷ [])) r none))
   unfolding logAction
-  log-place zero l e = ap₂ Store (omega arith) (ap (word src) (omega arith))
-  log-place (suc zero) l e = ap₂ Store (omega arith) (ap (word src) (omega arith))
-  log-place (suc (suc zero)) l e = ap₂ Store (omega arith) (ap (word src) (omega arith))
-  log-place (suc (suc (suc zero))) l e = ap₂ Store (omega arith) (ap (word src) (omega arith))
+  log-place zero l e = rw (lt-ltb (k % 4) 2 (omega arith)) (ap₂ Store (omega arith) (ap (word src) (omega arith)))
+  log-place (suc zero) l e = rw (lt-ltb (k % 4) 2 (omega arith)) (ap₂ Store (omega arith) (ap (word src) (omega arith)))
+  log-place (suc (suc zero)) l e = rw (le-ltb (k % 4) 2 (omega arith)) (ap₂ Store (omega arith) (ap (word src) (omega arith)))
+  log-place (suc (suc (suc zero))) l e = rw (le-ltb (k % 4) 2 (omega arith)) (ap₂ Store (omega arith) (ap (word src) (omega arith)))
   log-place (suc (suc (suc (suc r)))) l e = absurd (omega arith)
 
-  log-is : logAction src k ≡ commitAction (shapeOf s) p src n k
+  log-is : logAction (shapeOf s) src k ≡ commitAction (shapeOf s) p src n k
   unfolding commitAction
   log-is =
       let d : k ≡ 4 * (k / 4) + k % 4 = omega arith in
@@ -89,7 +90,7 @@ module _ (s : Shape) (p src : List ℕ) (n k : ℕ) (h : k < 4 * n) where
 
 -- what stands behind them is not met, or is barriers
 seal-list : (s : Shape) (p : List ℕ) (w k : ℕ) (rest : List Step) → ((j : ℕ) → k ≡ 4 + j → getD rest j barrier ≡ barrier)
-    → sealAction w k ≡ actionOf (shapeOf s) p (getD (barrier ∷ store (record { at = logA (shapeOf s); val = w }) ∷ store (record { at = logB (shapeOf s); val = w }) ∷ barrier ∷ rest) k barrier)
+    → sealAction (shapeOf s) w k ≡ actionOf (shapeOf s) p (getD (barrier ∷ store (record { at = logA (shapeOf s); val = w }) ∷ store (record { at = logB (shapeOf s); val = w }) ∷ barrier ∷ rest) k barrier)
 unfolding sealAction
 seal-list s p w zero rest h = refl
 seal-list s p w (suc zero) rest h = refl
@@ -98,17 +99,18 @@ seal-list s p w (suc (suc (suc zero))) rest h = refl
 seal-list s p w (suc (suc (suc (suc k)))) rest h =
     rw (ne-eqb (suc (suc (suc (suc k)))) 1 (λ e. omega arith), ne-eqb (suc (suc (suc (suc k)))) 2 (λ e. omega arith), h k (omega arith))
 
-pub seal-first : (w k : ℕ) → k ≡ 1 → Computed (sealAction w k) 4608 (Store 512 w)
-unfolding sealAction
-seal-first w k e = record { value = rw (eq-eqb k 1 e); inside = omega arith }
+module _ (s : Shape) (r : InRange (shapeOf s)) (w k : ℕ) where
+  pub seal-first : (a : ℕ) → k ≡ 1 → a ≡ logA (shapeOf s) → Computed (sealAction (shapeOf s) w k) (zonesAt (shapeOf s)) (Store a w)
+  unfolding sealAction
+  seal-first a e f = let g = shape-good s r .page-min in record { value = rw (eq-eqb k 1 e, f); inside = omega arith }
 
-pub seal-second : (w k : ℕ) → (k ≡ 1 → ⊥) → k ≡ 2 → Computed (sealAction w k) 4608 (Store 2560 w)
-unfolding sealAction
-seal-second w k f e = record { value = rw (ne-eqb k 1 f, eq-eqb k 2 e); inside = omega arith }
+  pub seal-second : (b : ℕ) → (k ≡ 1 → ⊥) → k ≡ 2 → b ≡ logB (shapeOf s) → Computed (sealAction (shapeOf s) w k) (zonesAt (shapeOf s)) (Store b w)
+  unfolding sealAction
+  seal-second b n e f = let g = shape-good s r .page-min in record { value = rw (ne-eqb k 1 n, eq-eqb k 2 e, f); inside = omega arith }
 
-pub seal-barrier : (w k : ℕ) → (k ≡ 1 → ⊥) → (k ≡ 2 → ⊥) → Computed (sealAction w k) 4608 Barrier
-unfolding sealAction
-seal-barrier w k f e = record { value = rw (ne-eqb k 1 f, ne-eqb k 2 e); inside = tt }
+  pub seal-barrier : (k ≡ 1 → ⊥) → (k ≡ 2 → ⊥) → Computed (sealAction (shapeOf s) w k) (zonesAt (shapeOf s)) Barrier
+  unfolding sealAction
+  seal-barrier f e = record { value = rw (ne-eqb k 1 f, ne-eqb k 2 e); inside = tt }
 
 inside-more : (r : Action) (m n : ℕ) → m ≤ n → Inside r m → Inside r n
 inside-more (Store a v) m n h i = omega arith
@@ -119,26 +121,31 @@ computed-more {r = r} {m = m} {n = n} c e h = record { value = c .value ∙ e; i
 
 -- ---- clearing both seals
 
-module _ (s : Shape) (p : List ℕ) (k : ℕ) (h : 4608 ≤ length p) where
-  clear-is : sealAction 0 (suc k) ≡ clearAction (shapeOf s) p k
+module _ (s : Shape) (p : List ℕ) (k : ℕ) (h : Shaped p (shapeOf s)) where
+  clear-is : sealAction (shapeOf s) 0 (suc k) ≡ clearAction (shapeOf s) p k
   unfolding clearAction recoverySteps
   clear-is = seal-list s p 0 (suc k) [] (λ j e. refl)
 
-  pub clear-seal : (r : Action) → Computed (sealAction 0 (k + 1)) 4608 r → Computed (clearAction (shapeOf s) p k) (length p) r
-  clear-seal r c = computed-more c (ap (sealAction 0) (omega arith) ∙ clear-is) h
+  pub clear-seal : (r : Action) → Computed (sealAction (shapeOf s) 0 (k + 1)) (zonesAt (shapeOf s)) r → Computed (clearAction (shapeOf s) p k) (length p) r
+  clear-seal r c = computed-more c (ap (sealAction (shapeOf s) 0) (omega arith) ∙ clear-is) (shaped-room p s h)
 
   pub clear-barrier : 2 ≤ k → Computed (clearAction (shapeOf s) p k) (length p) Barrier
-  clear-barrier l = computed-more (seal-barrier 0 (suc k) (λ e. omega arith) (λ e. omega arith)) clear-is h
+  clear-barrier l = computed-more (seal-barrier s (h .range) 0 (suc k) (λ e. omega arith) (λ e. omega arith)) clear-is (shaped-room p s h)
 
 -- ---- words of an entry
 
 pub data-loaded : (p : List ℕ) (a u v : ℕ) → Loaded 8 p a u → Loaded 8 p (a + 8) v → Store u v ≡ Store (word p a) (word p (a + 8))
 data-loaded p a u v e f = ap₂ Store (loaded-word e) (loaded-word f)
 
-pub log-loaded : (p : List ℕ) (k a u : ℕ) → a ≡ 512 + 2048 * (k % 4 / 2) + 16 + (16 * (k / 4) + 8 * (k % 2)) → a + 8 ≤ 4608 → Loaded 8 p (16 * (k / 4) + 8 * (k % 2)) u
-    → Computed (logAction p k) 4608 (Store a u)
-unfolding logAction
-log-loaded p k a u e l w = record { value = ap₂ Store e (loaded-word w); inside = l }
+-- of the k-th word of part 1
+module _ (s : Shape) (r : InRange (shapeOf s)) (p : List ℕ) (n k u : ℕ) (h : k < 4 * n) (f : n ≤ entryLimit) (w : Loaded 8 p (16 * (k / 4) + 8 * (k % 2)) u) where
+  pub log-first : (a : ℕ) → k % 4 < 2 → a ≡ logA (shapeOf s) → Computed (logAction (shapeOf s) p k) (zonesAt (shapeOf s)) (Store (a + 16 + (16 * (k / 4) + 8 * (k % 2))) u)
+  unfolding logAction
+  log-first a l e = let g = shape-good s r .page-min in record { value = rw (lt-ltb (k % 4) 2 l, e, loaded-word w); inside = omega arith }
+
+  pub log-second : (b : ℕ) → 2 ≤ k % 4 → b ≡ logB (shapeOf s) → Computed (logAction (shapeOf s) p k) (zonesAt (shapeOf s)) (Store (b + 16 + (16 * (k / 4) + 8 * (k % 2))) u)
+  unfolding logAction
+  log-second b l e = let g = shape-good s r .page-min in record { value = rw (le-ltb (k % 4) 2 l, e, loaded-word w); inside = omega arith }
 
 -- ---- a word of the zones, and its parity
 
@@ -156,8 +163,8 @@ module _ (s : Shape) (r : InRange (shapeOf s)) (p : List ℕ) (h : length p ≡ 
 -- ---- parts 3 to 5
 
 module _ (s : Shape) (r : InRange (shapeOf s)) (p src : List ℕ) (at n k : ℕ) (h : Ready (shapeOf s) p src at n k) where
-  pool-holds : 4608 ≤ length p
-  pool-holds = let b = size-bounds s r in let w = h .whole in omega arith
+  pool-holds : zonesAt (shapeOf s) ≤ length p
+  pool-holds = shaped-room p s (record { range = r; size = h .whole })
 
   target-in : (j : ℕ) → j < n → k < 2 * n + 1 → InZones (shapeOf s) (word src (at + 16 * j))
   target-in j l u = fits-in (shapeOf s) (word src (at + 16 * j)) (fits-at (shapeOf s) src at n j (h .right u) l)
@@ -194,11 +201,11 @@ module _ (s : Shape) (r : InRange (shapeOf s)) (p src : List ℕ) (at n k : ℕ)
       ap (parityAction (shapeOf s) p) (loaded-word e) ∙ ap (λ z. actionOf (shapeOf s) p (parity z)) (sym (entry-at src at n (k - n - 1) j)) in
       computed-more f (redo-at _ _ (length (read src at n) + 1 + (k - n - 1)) w (redo-parity (shapeOf s) (read src at n) (k - n - 1) (omega arith)) x) y
 
-  pub redo-seal-out : (a : Action) → 2 * n + 1 ≤ k → Computed (sealAction 0 (k - (2 * n + 1))) 4608 a → Computed (redoAction (shapeOf s) p src at n k) (length p) a
+  pub redo-seal-out : (a : Action) → 2 * n + 1 ≤ k → Computed (sealAction (shapeOf s) 0 (k - (2 * n + 1))) (zonesAt (shapeOf s)) a → Computed (redoAction (shapeOf s) p src at n k) (length p) a
   redo-seal-out a l e =
       let c = length-read src at n in
       let x : 2 * length (read src at n) + 1 + (k - (2 * n + 1)) ≡ k = omega arith in
-      computed-more e (redo-at (sealAction 0 (k - (2 * n + 1))) _ _ (seal-list s p 0 (k - (2 * n + 1)) [] (λ j e. refl)) (redo-tail (shapeOf s) (read src at n) (k - (2 * n + 1))) x) pool-holds
+      computed-more e (redo-at (sealAction (shapeOf s) 0 (k - (2 * n + 1))) _ _ (seal-list s p 0 (k - (2 * n + 1)) [] (λ j e. refl)) (redo-tail (shapeOf s) (read src at n) (k - (2 * n + 1))) x) pool-holds
 
 -- ---- a whole commit
 
@@ -206,17 +213,17 @@ module _ (s : Shape) (r : InRange (shapeOf s)) (p src : List ℕ) (n k : ℕ) (h
   pub ready-later : (j : ℕ) → Ready (shapeOf s) p src 0 n j
   ready-later j = record { whole = h .whole; few = h .few; held = h .held; right = λ u. h .right (omega arith) }
 
-  pub commit-log-out : (a : Action) → k < 4 * n → Computed (logAction src k) 4608 a → Computed (commitAction (shapeOf s) p src n k) (length p) a
+  pub commit-log-out : (a : Action) → k < 4 * n → Computed (logAction (shapeOf s) src k) (zonesAt (shapeOf s)) a → Computed (commitAction (shapeOf s) p src n k) (length p) a
   commit-log-out a l e = computed-more e (log-is s p src n k l) (pool-holds s r p src 0 n 0 h)
 
-  pub commit-seal-out : (a : Action) (w : ℕ) → 4 * n ≤ k → k - 4 * n < 4 → w ≡ sealOf (read src 0 n) → Computed (sealAction w (k - 4 * n)) 4608 a
+  pub commit-seal-out : (a : Action) (w : ℕ) → 4 * n ≤ k → k - 4 * n < 4 → w ≡ sealOf (read src 0 n) → Computed (sealAction (shapeOf s) w (k - 4 * n)) (zonesAt (shapeOf s)) a
       → Computed (commitAction (shapeOf s) p src n k) (length p) a
   unfolding commitAction
   commit-seal-out a w l u v e =
       let c = length-read src 0 n in
       let x : 4 * length (read src 0 n) + (k - 4 * n) ≡ k = omega arith in
       computed-more e
-      (ap (λ (y : ℕ). sealAction y (k - 4 * n)) v ∙ seal-list s p (sealOf (read src 0 n)) (k - 4 * n) (redo (shapeOf s) (read src 0 n)) (λ j e. absurd (omega arith))
+      (ap (λ (y : ℕ). sealAction (shapeOf s) y (k - 4 * n)) v ∙ seal-list s p (sealOf (read src 0 n)) (k - 4 * n) (redo (shapeOf s) (read src 0 n)) (λ j e. absurd (omega arith))
       ∙ ap (actionOf (shapeOf s) p) (sym (commit-seal (shapeOf s) (read src 0 n) (k - 4 * n) (omega arith)) ∙ ap (λ (y : ℕ). getD (commitSteps (shapeOf s) (read src 0 n)) y barrier) x))
       (pool-holds s r p src 0 n 0 h)
 

@@ -8,7 +8,7 @@ use lib.Dec.{eqb, leb}
 use lib.ListN.{length, getD}
 use Rattle.rules.specs.Words.{word}
 use Rattle.rules.specs.Check.{check}
-use Rattle.rules.specs.Shape.{Shape, entryLimit, logHead, poolSize, stagingSize}
+use Rattle.rules.specs.Shape.{Shape, entryLimit, entrySize, logHead, poolSize, stagingSize}
 use Rattle.rules.specs.Staging.{entriesAt, entryBytes, goodTargets}
 use Rattle.rules.proofs.Bool.{and-split}
 use Rattle.powercut.specs.Log.{Log, checkIn, countIn, logAt, logEntries, markIn, sealMark, valid}
@@ -59,7 +59,7 @@ module _ (sh : Shape) (p : List ℕ) where
     ready-staged staging n k f l e = record { whole = whole; few = f; held = omega arith; right = λ u. e }
 
     -- the log at b with the count n, kept while data or parity is stored
-    pub ready-log : (b n k : ℕ) → b + 2048 ≤ length p → n ≤ entryLimit → (k < 2 * n + 1 → (valid sh p b ≡ true) × (countIn (word p b) ≡ n)) → Ready sh p p (b + logHead) n k
+    pub ready-log : (b n k : ℕ) → b + logHead + entrySize * entryLimit ≤ length p → n ≤ entryLimit → (k < 2 * n + 1 → (valid sh p b ≡ true) × (countIn (word p b) ≡ n)) → Ready sh p p (b + logHead) n k
     unfolding allFit read
     ready-log b n k l f h = record { whole = whole; few = f; held = omega arith; right = λ u. rw (← (h u .1)) (valid-targets sh p b (h u .0)) }
 

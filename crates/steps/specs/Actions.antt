@@ -3,10 +3,10 @@ use Prim.Native.Nat.{ℕ, _+_, _*_, _/_, _%_, _<_, _≤_}
 use mathlib.Core.Path.{_≡_}
 use mathlib.Core.Bool.{cond, true}
 use mathlib.Core.List.{List}
-use lib.Dec.{eqb}
+use lib.Dec.{eqb, ltb}
 use lib.ListN.{getD, length}
 use Rattle.rules.specs.Words.{put, word}
-use Rattle.rules.specs.Shape.{Shape, entryLimit, parityAt, poolSize}
+use Rattle.rules.specs.Shape.{Shape, entryLimit, entrySize, logA, logB, logHead, parityAt, poolSize}
 use Rattle.rules.specs.Parity.{parityWord}
 use Rattle.rules.specs.Answer.{Answer, passed, stored}
 use Rattle.powercut.specs.Steps.{Step, barrier, clear, commitSteps, parity, recoverySteps, redo, store}
@@ -61,13 +61,15 @@ redoAction sh p src at n k = actionOf sh p (getD (redo sh (read src at n)) k bar
 unfoldable pub clearAction : Shape → List ℕ → ℕ → Action
 clearAction sh p k = actionOf sh p (getD (recoverySteps sh p clear) k barrier)
 
--- ---- By numbers, at a page of 256: part 1; and a barrier, both seals with w, a barrier.
+-- ---- By numbers: part 1, two words in A and two in B for each entry; and a barrier, both seals with w, a barrier.
 
-unfoldable pub logAction : List ℕ → ℕ → Action
-logAction src k = Store (512 + 2048 * (k % 4 / 2) + 16 + (16 * (k / 4) + 8 * (k % 2))) (word src (16 * (k / 4) + 8 * (k % 2)))
+unfoldable pub logAction : Shape → List ℕ → ℕ → Action
+logAction sh src k =
+    let o : ℕ = entrySize * (k / 4) + 8 * (k % 2) in
+    Store (cond (ltb (k % 4) 2) (logA sh) (logB sh) + logHead + o) (word src o)
 
-unfoldable pub sealAction : ℕ → ℕ → Action
-sealAction w k = cond (eqb k 1) (Store 512 w) (cond (eqb k 2) (Store 2560 w) Barrier)
+unfoldable pub sealAction : Shape → ℕ → ℕ → Action
+sealAction sh w k = cond (eqb k 1) (Store (logA sh) w) (cond (eqb k 2) (Store (logB sh) w) Barrier)
 
 -- What step k of parts 3 to 5 asks: a whole pool, the entries in src; and while data or parity is stored, targets that fit.
 pub record Ready (sh : Shape) (p src : List ℕ) (at n k : ℕ) : Type 0 where

@@ -3,8 +3,8 @@ ghost use mathlib.Core.Path.{_≡_};
 ghost use Prim.Native.Nat.{_+_, _*_, _≤_, _<_};
 ghost use lib.ListN.{length};
 ghost use Rattle.rules.specs.Words.{word};
-ghost use Rattle.rules.specs.Shape.{InZones, poolSize};
-ghost use Rattle.layout.specs.Reading.{InRange, shapeOf};
+ghost use Rattle.rules.specs.Shape.{InZones, entryLimit, poolSize, zonesAt};
+ghost use Rattle.layout.specs.Reading.{InRange, Shaped, shapeOf};
 ghost use Rattle.steps.specs.Actions.{Computed, Inside, Ready, applied, clearAction, commitAction, logAction, parityAction, redoAction, sealAction};
 use layout::Shape;
 
@@ -14,38 +14,50 @@ pub enum Action {
     Barrier,
 }
 
-// Part 1, step k: target and word of entry k / 4, in A, then in B, which is 2,048 bytes behind.
-fn log_action(src: &[u8], n: usize, k: usize) -> Action
-    requires { ⌜ (k < 4 * n) × (n ≤ 127) × (16 * n ≤ length (now src)) ⌝ }
-    ensures { λ r. ⌜ Computed (logAction (now (src .entry)) k) 4608 r ⌝ }
+// Part 1, step k: target and word of entry k / 4, in A, then in B.
+fn log_action(s: Shape, src: &[u8], n: usize, k: usize) -> Action
+    requires { ⌜ (InRange (shapeOf s)) × (k < 4 * n) × (n ≤ entryLimit) × (16 * n ≤ length (now src)) ⌝ }
+    ensures { λ r. ⌜ Computed (logAction (shapeOf s) (now (src .entry)) k) (zonesAt (shapeOf s)) r ⌝ }
 {
+    let a = s.log_a();
+    let b = s.log_b();
     let o = 16 * (k / 4) + 8 * (k % 2);
+    let val = words::load64(src, o);
+    if k % 4 < 2 {
+        return Action::Store {
+            at: a + 16 + o,
+            val,
+        };
+    }
     Action::Store {
-        at: 512 + 2048 * (k % 4 / 2) + 16 + o,
-        val: words::load64(src, o),
+        at: b + 16 + o,
+        val,
     }
 }
 
 // A barrier, both seals with `w`, a barrier.
-fn seal_action(w: u64, k: usize) -> Action
-    ensures { λ r. ⌜ Computed (sealAction w k) 4608 r ⌝ }
+fn seal_action(s: Shape, w: u64, k: usize) -> Action
+    requires { ⌜ InRange (shapeOf s) ⌝ }
+    ensures { λ r. ⌜ Computed (sealAction (shapeOf s) w k) (zonesAt (shapeOf s)) r ⌝ }
 {
+    let a = s.log_a();
+    let b = s.log_b();
     if k == 1 {
-        return Action::Store { at: 512, val: w };
+        return Action::Store { at: a, val: w };
     }
     if k == 2 {
-        return Action::Store { at: 2560, val: w };
+        return Action::Store { at: b, val: w };
     }
     Action::Barrier
 }
 
 // Step k of a recovery that clears both seals.
 pub fn clear_action(s: Shape, pool: &[u8], k: usize) -> Action
-    requires { ⌜ 4608 ≤ length (now pool) ⌝ }
+    requires { ⌜ Shaped (now pool) (shapeOf s) ⌝ }
     ensures { λ r. ⌜ Computed (clearAction (shapeOf s) (now (pool .entry)) k) (length (now (pool .entry))) r ⌝ }
 {
     if k < 2 {
-        return seal_action(0, k + 1);
+        return seal_action(s, 0, k + 1);
     }
     Action::Barrier
 }
@@ -87,7 +99,7 @@ pub fn redo_action(s: Shape, pool: &[u8], src: &[u8], at: usize, n: usize, k: us
         let t = words::load64(src, at + 16 * (k - n - 1)) as usize;
         return parity_action(s, pool, t);
     }
-    seal_action(0, k - (2 * n + 1))
+    seal_action(s, 0, k - (2 * n + 1))
 }
 
 // Step k of the commit of the n entries in `staging`.
@@ -96,11 +108,11 @@ pub fn commit_action(s: Shape, pool: &[u8], staging: &[u8], n: usize, k: usize) 
     ensures { λ r. ⌜ Computed (commitAction (shapeOf s) (now (pool .entry)) (now (staging .entry)) n k) (length (now (pool .entry))) r ⌝ }
 {
     if k < 4 * n {
-        return log_action(staging, n, k);
+        return log_action(s, staging, n, k);
     }
     let m = k - 4 * n;
     if m < 4 {
-        return seal_action(log::seal(staging, 0, n), m);
+        return seal_action(s, log::seal(staging, 0, n), m);
     }
     redo_action(s, pool, staging, 0, n, m - 4)
 }

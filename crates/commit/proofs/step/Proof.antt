@@ -1,7 +1,7 @@
 -- `commit::step` meets its contract. Assumes nothing.
 use mathlib.Core.Path.{ap}
 use Rattle.record.specs.Reading.{phaseOf}
-use Rattle.record.proofs.Judging.{record-shaped, seals-room}
+use Rattle.record.proofs.Judging.{record-shaped}
 use Rattle.commit.proofs.Committing.{step-closed, step-made, step-open, step-ready, step-sealed, step-within}
 use borrow.Author.Needs.{needs}
 use Rattle.commit.proofs.step.Statement.{statement}
@@ -17,7 +17,7 @@ enum-known-phase : tie.Need-enum-known-phase
 enum-known-phase c = search needs
 
 sealed-requires : tie.Need-sealed-requires
-sealed-requires c κs = let s = c .before .before .before .before .before .before in seals-room _ (s .pre)
+sealed-requires c κs = let s = c .before .before .before .before .before .before in record-shaped _ (s .pre)
 
 same-length : tie.Need-same-length
 same-length c = search needs

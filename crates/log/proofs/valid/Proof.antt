@@ -1,4 +1,5 @@
 -- `log::valid` meets its contract. Assumes nothing.
+use Rattle.log.proofs.Places.{log-room}
 use Rattle.log.proofs.Logs.{valid-check, valid-high, valid-low, valid-mark, valid-rest}
 use native.Mathlib.Omega.{arith}
 use borrow.Author.Needs.{needs}
@@ -6,7 +7,7 @@ use Rattle.log.proofs.valid.Statement.{statement}
 use Rattle.log.proofs.valid.Tie as tie
 
 load64-requires : tie.Need-load64-requires
-load64-requires c κs = search needs
+load64-requires c κs = let a = c .before in let h = log-room (a .args .s) _ (a .pre .0) _ (a .pre .1) in search needs
 
 count-requires : tie.Need-count-requires
 count-requires c κs = search needs
@@ -21,10 +22,10 @@ returns-3 : tie.Need-returns-3
 returns-3 c = valid-high _ _ _ _ _ (c .before .before .before .before .load64 .ensures) (c .before .before .before .count .ensures .0) (c .before .before .if1 .left) (omega (arith, c .before .if2 .left, c .if3 .taken)) (omega (arith, c .if3 .taken))
 
 add-check-entries : tie.Need-add-check-entries
-add-check-entries c = search needs
+add-check-entries c = let a = c .before .before .before .before .before .before in let h = log-room (a .args .s) _ (a .pre .0) _ (a .pre .1) in search needs
 
 check-entries-requires : tie.Need-check-entries-requires
-check-entries-requires c κs = omega (arith, c .if3 .left, c .before .before .before .before .before .before .pre .1)
+check-entries-requires c κs = let a = c .before .before .before .before .before .before in let h = log-room (a .args .s) _ (a .pre .0) _ (a .pre .1) in omega (arith, c .if3 .left, h)
 
 cast-if4 : tie.Need-cast-if4
 cast-if4 c = search needs
@@ -33,10 +34,10 @@ returns-4 : tie.Need-returns-4
 returns-4 c = valid-check _ _ _ _ _ (c .before .before .before .before .before .before .load64 .ensures) (c .before .before .before .before .before .count .ensures .0) (c .before .before .before .before .if1 .left) _ (omega (arith, c .before .before .before .if2 .left)) (omega (arith, c .before .before .if3 .left)) (c .before .check-entries .ensures .0) (c .if4 .taken)
 
 add-targets-fit : tie.Need-add-targets-fit
-add-targets-fit c = search needs
+add-targets-fit c = let a = c .before .before .before .before .before .before .before .before in let h = log-room (a .args .s) _ (a .pre .0) _ (a .pre .1) in search needs
 
 targets-fit-requires : tie.Need-targets-fit-requires
-targets-fit-requires c κs = search needs
+targets-fit-requires c κs = let a = c .before .before .before .before .before .before .before .before in let h = log-room (a .args .s) _ (a .pre .0) _ (a .pre .1) in search needs
 
 returns-5 : tie.Need-returns-5
 returns-5 c = valid-rest _ _ _ _ _ (c .before .before .before .before .before .before .before .load64 .ensures) (c .before .before .before .before .before .before .count .ensures .0) (c .before .before .before .before .before .if1 .left) _ _ (omega (arith, c .before .before .before .before .if2 .left)) (omega (arith, c .before .before .before .if3 .left)) (c .before .before .check-entries .ensures .0) (c .before .if4 .left) (c .targets-fit .ensures)

@@ -1,6 +1,7 @@
 -- `opening::quiet` meets its contract. Assumes nothing.
 use mathlib.Core.Path.{sym, _∙_}
-use Rattle.opening.proofs.Reading.{quiet-good, quiet-refused, quiet-room, quiet-sealed}
+use Rattle.layout.proofs.Opening.{open-shaped}
+use Rattle.opening.proofs.Reading.{quiet-good, quiet-refused, quiet-sealed}
 use borrow.Author.Needs.{needs}
 use Rattle.opening.proofs.quiet.Statement.{statement}
 use Rattle.opening.proofs.quiet.Tie as tie
@@ -15,7 +16,7 @@ enum-known-s : tie.Need-enum-known-s
 enum-known-s c = search needs
 
 seals-zero-requires : tie.Need-seals-zero-requires
-seals-zero-requires c κs = quiet-room _ _ (sym (c .before .before .before .«open» .ensures) ∙ c .before .s .given .1)
+seals-zero-requires c κs = open-shaped _ _ (sym (c .before .before .before .«open» .ensures) ∙ c .before .s .given .1)
 
 returns : tie.Need-returns
 returns c = quiet-good _ _ _ (sym (c .before .before .before .before .before .«open» .ensures) ∙ c .before .before .before .s .given .1) (c .before .seals-zero .ensures) (c .if1 .taken)

@@ -1,5 +1,5 @@
 -- `record::ready` meets its contract. Assumes nothing.
-use Rattle.record.proofs.Judging.{ready-closed, ready-good, ready-refused, ready-sealed, seals-room}
+use Rattle.record.proofs.Judging.{ready-closed, ready-good, ready-refused, ready-sealed, record-shaped}
 use mathlib.Core.Path.{sym, _∙_}
 use borrow.Author.Tests.{not-false, not-true}
 use borrow.Author.Needs.{needs}
@@ -22,7 +22,7 @@ returns : tie.Need-returns
 returns c = ready-closed _ (sym (c .before .before .before .before .before .judge .ensures) ∙ c .before .before .before .s .given .1) (c .before .live .ensures) (not-true (c .before .live .result) (c .if1 .taken))
 
 seals-zero-requires : tie.Need-seals-zero-requires
-seals-zero-requires c κs = seals-room _ (sym (c .before .before .before .before .before .judge .ensures) ∙ c .before .before .before .s .given .1)
+seals-zero-requires c κs = record-shaped _ (sym (c .before .before .before .before .before .judge .ensures) ∙ c .before .before .before .s .given .1)
 
 returns-2 : tie.Need-returns-2
 returns-2 c = ready-good _ (sym (c .before .before .before .before .before .before .before .judge .ensures) ∙ c .before .before .before .before .before .s .given .1) (c .before .before .before .live .ensures) (not-false (c .before .before .before .live .result) (c .before .before .if1 .left)) (c .before .seals-zero .ensures) (c .if2 .taken)

@@ -1,10 +1,10 @@
 -- `recovery::lost` meets its contract. Assumes nothing.
 use native.Mathlib.Omega.{arith}
+use Rattle.log.proofs.Places.{log-room}
 use Rattle.recovery.proofs.Stepping.{lost-count, lost-invalid, lost-past}
 use borrow.Author.Needs.{needs}
 use Rattle.recovery.proofs.lost.Statement.{statement}
 use Rattle.recovery.proofs.lost.Tie as tie
-use Rattle.layout.proofs.Opening.{shaped-room}
 
 mul-if1 : tie.Need-mul-if1
 mul-if1 c = search needs
@@ -16,10 +16,10 @@ returns : tie.Need-returns
 returns c = search (needs, lost-past)
 
 valid-requires : tie.Need-valid-requires
-valid-requires c κs = let s = c .before .before in let h = shaped-room _ (s .args .s) (s .pre .0) in (s .pre .0 .range, omega arith)
+valid-requires c κs = search needs
 
 load64-requires : tie.Need-load64-requires
-load64-requires c κs = let s = c .before .before .before .before in let h = shaped-room _ (s .args .s) (s .pre .0) in omega arith
+load64-requires c κs = let a = c .before .before .before .before in omega (arith, log-room (a .args .s) _ (a .pre .0) _ (a .pre .1))
 
 count-requires : tie.Need-count-requires
 count-requires c κs = search needs

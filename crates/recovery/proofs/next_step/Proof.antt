@@ -1,32 +1,31 @@
 -- `recovery::next_step` meets its contract. Assumes nothing.
-use native.Mathlib.Omega.{arith}
 use mathlib.Core.Path.{refl}
 use Rattle.powercut.specs.Log.{fromA, fromB}
 use Rattle.powercut.specs.Steps.{neither, nothing, recoverySteps}
 use Rattle.recovery.specs.declared.Next.the-variants.{Impossible, Make}
+use Rattle.log.proofs.Places.{at-log-a, at-log-b}
 use Rattle.recovery.proofs.Stepping.{clear-made, clear-past, empty-past, next-of}
 use borrow.Author.Needs.{needs}
 use Rattle.recovery.proofs.next_step.Statement.{statement}
 use Rattle.recovery.proofs.next_step.Tie as tie
-use Rattle.layout.proofs.Opening.{shaped-room}
 
 enum-known-work : tie.Need-enum-known-work
 enum-known-work c = search needs
 
-mul-replay-step : tie.Need-mul-replay-step
-mul-replay-step c = search needs
+log-a-requires : tie.Need-log-a-requires
+log-a-requires c κs = search needs
 
 replay-step-requires : tie.Need-replay-step-requires
-replay-step-requires c κs = search needs
+replay-step-requires c κs = search (needs, at-log-a)
 
 enum-known-work-2 : tie.Need-enum-known-work-2
 enum-known-work-2 c = search needs
 
-mul-replay-step-2 : tie.Need-mul-replay-step-2
-mul-replay-step-2 c = search needs
+log-b-requires : tie.Need-log-b-requires
+log-b-requires c κs = search needs
 
 replay-step-requires-2 : tie.Need-replay-step-requires-2
-replay-step-requires-2 c κs = search needs
+replay-step-requires-2 c κs = search (needs, at-log-b)
 
 enum-told : tie.Need-enum-told
 enum-told c = search needs
@@ -37,7 +36,7 @@ returns c =
     next-of (a .s) (a .pool .now) (a .k) Impossible (c .before .enum-told .given .1) (clear-past (a .s) (a .pool .now) _ (c .if1 .taken))
 
 clear-action-requires : tie.Need-clear-action-requires
-clear-action-requires c κs = let h = shaped-room _ (c .before .before .before .before .args .s) (c .before .before .before .before .pre) in omega arith
+clear-action-requires c κs = search needs
 
 enum-told-2 : tie.Need-enum-told-2
 enum-told-2 c = search needs
@@ -47,13 +46,13 @@ enum-told-3 c = search needs
 
 returns-2 : tie.Need-returns-2
 returns-2 c =
-    let a = c .before .before .before .before .before .args in
-    next-of (a .s) (a .pool .now) (a .k) (c .replay-step .result) (c .before .before .work .given .1) (c .replay-step .ensures fromA refl)
+    let a = c .before .before .before .before .before .before .args in
+    next-of (a .s) (a .pool .now) (a .k) (c .replay-step .result) (c .before .before .before .work .given .1) (c .replay-step .ensures fromA (c .before .log-a .ensures))
 
 returns-3 : tie.Need-returns-3
 returns-3 c =
-    let a = c .before .before .before .before .before .args in
-    next-of (a .s) (a .pool .now) (a .k) (c .replay-step2 .result) (c .before .before .work2 .given .1) (c .replay-step2 .ensures fromB refl)
+    let a = c .before .before .before .before .before .before .args in
+    next-of (a .s) (a .pool .now) (a .k) (c .replay-step2 .result) (c .before .before .before .work2 .given .1) (c .replay-step2 .ensures fromB (c .before .log-b .ensures))
 
 returns-4 : tie.Need-returns-4
 returns-4 c =
@@ -77,10 +76,10 @@ next-step-spec =
     tie.close
     (tie.spec
     enum-known-work
-    mul-replay-step
+    log-a-requires
     replay-step-requires
     enum-known-work-2
-    mul-replay-step-2
+    log-b-requires
     replay-step-requires-2
     enum-told
     returns

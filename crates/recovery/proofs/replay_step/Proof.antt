@@ -1,4 +1,5 @@
 -- `recovery::replay_step` meets its contract. Assumes nothing.
+use Rattle.log.proofs.Places.{log-room}
 use Rattle.recovery.proofs.Stepping.{replay-lost, replay-made, replay-many, replay-past, replay-ready}
 use native.Mathlib.Omega.{arith}
 use borrow.Author.Needs.{needs}
@@ -24,7 +25,7 @@ returns-3 : tie.Need-returns-3
 returns-3 c = λ l q. search (needs, replay-lost)
 
 add-redo-action : tie.Need-add-redo-action
-add-redo-action c = search needs
+add-redo-action c = let a = c .before .before .before .before .before in let h = log-room (a .args .s) _ (a .pre .0) _ (a .pre .1) in search needs
 
 redo-action-requires : tie.Need-redo-action-requires
 redo-action-requires c κs =

@@ -1,10 +1,15 @@
 -- `steps::log_action` meets its contract. Assumes nothing.
-use mathlib.Core.Path.{refl}
-use Rattle.steps.proofs.Actions.{log-loaded}
-use native.Mathlib.Omega.{arith}
+use Rattle.layout.proofs.Range.{bounds}
+use Rattle.steps.proofs.Actions.{log-first, log-second}
 use borrow.Author.Needs.{needs}
 use Rattle.steps.proofs.log_action.Statement.{statement}
 use Rattle.steps.proofs.log_action.Tie as tie
+
+log-a-requires : tie.Need-log-a-requires
+log-a-requires c κs = search needs
+
+log-b-requires : tie.Need-log-b-requires
+log-b-requires c κs = search needs
 
 mul-o : tie.Need-mul-o
 mul-o c = search needs
@@ -15,24 +20,40 @@ mul-o-2 c = search needs
 add-o : tie.Need-add-o
 add-o c = search needs
 
-mul-t7 : tie.Need-mul-t7
-mul-t7 c = search needs
-
-add-t6 : tie.Need-add-t6
-add-t6 c = search needs
-
-add-t9 : tie.Need-add-t9
-add-t9 c = search needs
-
-add-t10 : tie.Need-add-t10
-add-t10 c = search needs
-
 load64-requires : tie.Need-load64-requires
 load64-requires c κs = search needs
 
+add-t14 : tie.Need-add-t14
+add-t14 c = let a = c .before .before .before .before .before in let b = bounds (a .args .s) (a .pre .0) in search needs
+
+add-t15 : tie.Need-add-t15
+add-t15 c = let a = c .before .before .before .before .before in let b = bounds (a .args .s) (a .pre .0) in search needs
+
 returns : tie.Need-returns
-returns c = log-loaded _ (c .before .before .args .k) _ _ refl (omega arith) (c .load64 .ensures)
+returns c = search (needs, log-first)
+
+add-t12 : tie.Need-add-t12
+add-t12 c = let a = c .before .before .before .before .before in let b = bounds (a .args .s) (a .pre .0) in search needs
+
+add-t10 : tie.Need-add-t10
+add-t10 c = let a = c .before .before .before .before .before in let b = bounds (a .args .s) (a .pre .0) in search needs
+
+returns-2 : tie.Need-returns-2
+returns-2 c = search (needs, log-second)
 
 pub log-action-spec : {M : Type 1} → statement M
 log-action-spec =
-    tie.close (tie.spec mul-o mul-o-2 add-o mul-t7 add-t6 add-t9 add-t10 load64-requires returns)
+    tie.close
+    (tie.spec
+    log-a-requires
+    log-b-requires
+    mul-o
+    mul-o-2
+    add-o
+    load64-requires
+    add-t14
+    add-t15
+    returns
+    add-t12
+    add-t10
+    returns-2)

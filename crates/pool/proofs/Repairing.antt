@@ -17,7 +17,7 @@ use Rattle.layout.specs.declared.Opened.the-variants as Opening
 use Rattle.layout.specs.Reading.{answer, shapeOf}
 use Rattle.layout.proofs.Range.{bounds}
 use Rattle.layout.proofs.Opening.{answer-refused, open-good}
-use Rattle.pool.specs.declared.Outcome.the-variants.{Done, Refused}
+use Rattle.pool.specs.declared.Outcome.the-variants.{Refused, Taken}
 use Rattle.pool.specs.Reading.{changed}
 use Rattle.opening.proofs.Reading.{read-none, read-opened, read-shaped}
 
@@ -50,7 +50,7 @@ module _ (p : List ℕ) where
       unfolding repair repairTests first concludePool
       repair-two x y h a f b t = rw (first-right (readTests p) _ passed, ← same, eq-eqb (length ms) (s .zones * s .cols) h, ← a, f, ← b, t)
 
-      pub repair-done : (x y : Bool) (q : List ℕ) → length ms ≡ s .zones * s .cols → x ≡ anyAbove (shapeOf s) ms → x ≡ false → y ≡ anyTwo ms → y ≡ false
-          → q ≡ repaired (shapeOf s) ms p → changed Done q ≡ repair p ms
+      pub repair-taken : (x y : Bool) (q : List ℕ) → length ms ≡ s .zones * s .cols → x ≡ anyAbove (shapeOf s) ms → x ≡ false → y ≡ anyTwo ms → y ≡ false
+          → q ≡ repaired (shapeOf s) ms p → changed Taken q ≡ repair p ms
       unfolding repair repairTests first concludePool
-      repair-done x y q h a f b g r = rw (first-right (readTests p) _ passed, ← same, eq-eqb (length ms) (s .zones * s .cols) h, ← a, f, ← b, g, r)
+      repair-taken x y q h a f b g r = rw (first-right (readTests p) _ passed, ← same, eq-eqb (length ms) (s .zones * s .cols) h, ← a, f, ← b, g, r)

@@ -1,7 +1,7 @@
 -- `pool::repair` meets its contract. Assumes nothing.
 use mathlib.Core.Path.{sym, _∙_}
 use Rattle.opening.proofs.Reading.{read-shaped}
-use Rattle.pool.proofs.Repairing.{columns-small, repair-above, repair-done, repair-length, repair-refused, repair-two}
+use Rattle.pool.proofs.Repairing.{columns-small, repair-above, repair-taken, repair-length, repair-refused, repair-two}
 use native.Mathlib.Omega.{arith}
 use borrow.Author.Needs.{needs}
 use Rattle.pool.proofs.repair.Statement.{statement}
@@ -56,7 +56,7 @@ same-length-5 : tie.Need-same-length-5
 same-length-5 c = search needs
 
 returns-5 : tie.Need-returns-5
-returns-5 c = repair-done _ _ (sym (c .before .before .before .before .before .before .before .before .before .before .before .before .before .quiet .ensures) ∙ c .before .before .before .before .before .before .before .before .before .before .before .s .given .1) _ _ _ (c .before .before .before .before .before .before .before .before .if1 .left) (c .before .before .before .before .before .before .before .any-above .ensures) (c .before .before .before .before .before .before .if2 .left) (c .before .before .before .before .before .any-two .ensures) (c .before .before .before .before .if3 .left) (c .before .before .repair-pages .ensures)
+returns-5 c = repair-taken _ _ (sym (c .before .before .before .before .before .before .before .before .before .before .before .before .before .quiet .ensures) ∙ c .before .before .before .before .before .before .before .before .before .before .before .s .given .1) _ _ _ (c .before .before .before .before .before .before .before .before .if1 .left) (c .before .before .before .before .before .before .before .any-above .ensures) (c .before .before .before .before .before .before .if2 .left) (c .before .before .before .before .before .any-two .ensures) (c .before .before .before .before .if3 .left) (c .before .before .repair-pages .ensures)
 
 pub repair-spec : {M : Type 1} → statement M
 repair-spec =

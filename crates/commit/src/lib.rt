@@ -84,7 +84,7 @@ fn told(txn: Record, action: Action, k: usize, n: usize) -> Stepped
             txn: next,
         },
         Action::Barrier => Stepped {
-            answer: Answer::Passed(k),
+            answer: Answer::Barrier(k),
             txn: next,
         },
     }

@@ -3,6 +3,7 @@
 // is recovered, the object looked for and the pool scrubbed. What is printed is compared with `stdout`, which was worked out apart from this
 // code.
 use answers::Answer;
+use answers::kind;
 use memory::copy;
 use memory::lay;
 use memory::noted;
@@ -22,18 +23,15 @@ use transaction::Transaction;
 const BODY: [u8; 48] = *b"The quick brown fox jumps over the lazy dog. 123";
 
 fn is_done(a: Answer) -> bool {
-    match a {
-        Answer::Done(_) => true,
-        _ => false,
-    }
+    kind(a) == Answer::DONE
 }
 
+// Whether the step was a barrier: the last one is.
 fn is_barrier(a: Answer) -> bool {
-    match a {
-        Answer::Passed(_) => true,
-        Answer::Done(_) => true,
-        _ => false,
+    if kind(a) == Answer::BARRIER {
+        return true;
     }
+    is_done(a)
 }
 
 // Whether scrub finds `n` objects and nothing wrong.

@@ -16,7 +16,7 @@ use Rattle.layout.specs.declared.Made.the-variants as Making
 use Rattle.layout.specs.Reading.{InRange, checked, madeOf, shapeOf}
 use Rattle.layout.proofs.Range.{bounds, made-good, made-out, size-bounds}
 use Rattle.pages.specs.Written.{HeaderFits}
-use Rattle.pool.specs.declared.Outcome.the-variants.{Done, Refused}
+use Rattle.pool.specs.declared.Outcome.the-variants.{Refused, Taken}
 use Rattle.pool.specs.Reading.{changed}
 
 or-true : (b : Bool) → (b || true) ≡ true
@@ -40,9 +40,9 @@ module _ (p : List ℕ) (R C Z id : ℕ) where
           let m = made-good r (shape R C Z) e refl s h in
           rw (← (m .0), m .1 .ranged, ne-eqb id 0 i, ne-eqb (length p) (poolSize (shapeOf s)) (λ q. l (q ∙ sym k)), or-true)
 
-      pub format-done : (q : List ℕ) → length p ≡ n → q ≡ freshPool (shapeOf s) id → changed Done q ≡ formatted p R C Z id
+      pub format-taken : (q : List ℕ) → length p ≡ n → q ≡ freshPool (shapeOf s) id → changed Taken q ≡ formatted p R C Z id
       unfolding formatted formatTests first concludePool
-      format-done q l f =
+      format-taken q l f =
           let m = made-good r (shape R C Z) e refl s h in
           let b = size-bounds s (m .1) in
           rw (← (m .0), m .1 .ranged, ne-eqb id 0 i, eq-eqb (length p) (poolSize (shapeOf s)) (l ∙ k), le-ltb (length p) (2 * pageSize) (omega (arith, l, k, b, m .1 .paged)), f)

@@ -15,7 +15,7 @@ use Rattle.layout.specs.declared.Shape.{Shape}
 use Rattle.layout.specs.declared.Opened.the-variants as Opening
 use Rattle.layout.specs.Reading.{opened}
 use Rattle.layout.proofs.Opening.{open-passed, open-refused}
-use Rattle.pool.specs.declared.Outcome.the-variants.{Done, Refused}
+use Rattle.pool.specs.declared.Outcome.the-variants.{Refused, Taken}
 use Rattle.pool.specs.Reading.{changed}
 
 -- pages of n bytes, as the code takes them: from 0 up to n, and from n up to m
@@ -58,6 +58,6 @@ module _ (p : List ℕ) where
   unfolding mendHeader concludePool
   mend-refused n e = rw (open-refused p n e)
 
-  pub mend-done : (s : Shape) (q : List ℕ) → opened p ≡ Opening.Good s → q ≡ mended p → changed Done q ≡ mendHeader p
+  pub mend-taken : (s : Shape) (q : List ℕ) → opened p ≡ Opening.Good s → q ≡ mended p → changed Taken q ≡ mendHeader p
   unfolding mendHeader concludePool
-  mend-done s q e m = rw (passed-first (openTests p) (open-passed p s e), m)
+  mend-taken s q e m = rw (passed-first (openTests p) (open-passed p s e), m)

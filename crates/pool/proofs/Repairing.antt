@@ -17,7 +17,7 @@ use Rattle.layout.specs.declared.Opened.the-variants as Opening
 use Rattle.layout.specs.Reading.{answer, shapeOf}
 use Rattle.layout.proofs.Range.{bounds}
 use Rattle.layout.proofs.Opening.{answer-refused, open-good}
-use Rattle.pool.specs.declared.Outcome.the-variants.{Done, Refused}
+use Rattle.pool.specs.declared.Outcome.the-variants.{Refused, Taken}
 use Rattle.pool.specs.Reading.{changed}
 use Rattle.opening.proofs.Reading.{read-none, read-opened, read-shaped}
 
@@ -57,7 +57,7 @@ module _ (p : List ℕ) where
       unfolding repair repairTests first concludePool
       repair-two x y h a f b t = rw (first-right (readTests p) _ passed, ← same, eq-eqb (length ms) (s .zones * s .cols) h, ← a, f, ← b, t)
 
-pub repair-done : {p ms : List ℕ} {s : Shape} {q : List ℕ} → Tested p ms s → q ≡ repaired (shapeOf s) ms p → changed Done q ≡ repair p ms
+pub repair-taken : {p ms : List ℕ} {s : Shape} {q : List ℕ} → Tested p ms s → q ≡ repaired (shapeOf s) ms p → changed Taken q ≡ repair p ms
 unfolding repair repairTests first concludePool
-repair-done {p} {ms} {s} t r =
+repair-taken {p} {ms} {s} t r =
     rw (first-right (readTests p) _ (passed p ms (t .opens)), ← (same p ms (t .opens)), eq-eqb (length ms) (s .zones * s .cols) (t .masks), t .above, t .two, r)

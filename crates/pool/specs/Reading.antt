@@ -5,13 +5,13 @@ use Rattle.rules.specs.Answer.{Answer, Changed, refused, taken}
 use Rattle.rules.specs.Look as Looking
 use Rattle.rules.specs.Scrub as Scrubbing
 use Rattle.pool.specs.declared.Outcome.{Outcome}
-use Rattle.pool.specs.declared.Outcome.the-variants.{Done, Refused}
+use Rattle.pool.specs.declared.Outcome.the-variants.{Refused, Taken}
 use Rattle.pool.specs.declared.Scrubbed.{Scrubbed}
 use Rattle.pool.specs.declared.Scrubbed.the-variants as Scanned
 
 -- A call on the pool alone: carried out, or refused with 01's number.
 abbrev pub answerOf : Outcome → Answer
-answerOf Done = taken
+answerOf Taken = taken
 answerOf (Refused n) = refused n
 
 -- Its answer, and the pool that it leaves.

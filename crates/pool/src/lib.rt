@@ -20,7 +20,7 @@ use reading::Body;
 
 // What a call on the pool alone answers.
 pub enum Outcome {
-    Done,
+    Taken,
     Refused(u8),
 }
 
@@ -44,7 +44,7 @@ pub fn format(pool: &mut [u8], rows: usize, cols: usize, zones: usize, id: u64) 
                 return Outcome::Refused(2);
             }
             fill(pool, s, id);
-            Outcome::Done
+            Outcome::Taken
         }
     }
 }
@@ -85,7 +85,7 @@ pub fn mend(pool: &mut [u8]) -> Outcome
         Opened::Refused(n) => Outcome::Refused(n),
         Opened::Good(s) => {
             copy_header(pool, s);
-            Outcome::Done
+            Outcome::Taken
         }
     }
 }
@@ -123,7 +123,7 @@ pub fn repair(pool: &mut [u8], lost: &[u16]) -> Outcome
                 return Outcome::Refused(28);
             }
             repair::repair_pages(s, pool, lost);
-            Outcome::Done
+            Outcome::Taken
         }
     }
 }

@@ -7,7 +7,7 @@ use Rattle.rules.specs.Answer.{After, Changed, Given}
 use Rattle.rules.specs.Plan.{Call}
 use Rattle.rules.specs.Calls.{call}
 use Rattle.powercut.specs.Recovery.{RecoveryAfter}
-use Rattle.answers.specs.Reading.{answerOf}
+use Rattle.answers.specs.Reading.{answerOf, valueOf}
 use Rattle.record.specs.Reading.{phaseOf}
 use Rattle.pool.specs.declared.Outcome.{Outcome}
 use Rattle.pool.specs.Reading as Pool
@@ -21,13 +21,13 @@ use Rattle.pool_c.specs.declared.transactions.Transaction.{Transaction}
 use Rattle.pool_c.specs.declared.transactions.Reply.{Reply}
 use Rattle.pool_c.specs.declared.recoveries.Recovery as C
 use Rattle.pool_c.specs.declared.recoveries.RecoveryReply.{RecoveryReply}
-use Rattle.pool_c.specs.Reading.{Fits64, afterOut, changedOut, givenIn, phaseIn, phaseOut, recoveryAfterOut, recoveryIn, recoveryReplyOut, replyOut, transactionIn, valueOut}
+use Rattle.pool_c.specs.Reading.{Fits64, afterOut, changedOut, givenIn, phaseIn, phaseOut, recoveryAfterOut, recoveryIn, recoveryReplyOut, replyOut, transactionIn}
 use Rattle.pool_c.proofs.Reading.{phase-out-in, progress-out-in, work-out-in}
 use Rattle.pool_c.proofs.Fits.{Fits, Keeps, call-fits}
 
 -- ---- the pool alone
 
-pub changed-out : (x : Outcome) {r : ℕ} (q : List ℕ) {y : Changed} → r ≡ valueOut (Pool.answerOf x) → Pool.changed x q ≡ y → (r, q) ≡ changedOut y
+pub changed-out : (x : Outcome) {r : ℕ} (q : List ℕ) {y : Changed} → r ≡ valueOf (Pool.answerOf x) → Pool.changed x q ≡ y → (r, q) ≡ changedOut y
 changed-out x q e h = ap (λ (n : ℕ). (n, q)) e ∙ ap changedOut h
 
 -- ---- a transaction: f is the definition, d the transaction decoded from t, x what the public call hands back

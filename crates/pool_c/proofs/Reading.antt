@@ -9,11 +9,11 @@ use Rattle.powercut.specs.Recovery.{recovering}
 use Rattle.record.specs.declared.Phase.{Phase}
 use Rattle.record.specs.declared.Phase.the-variants.{Committing}
 use Rattle.record.specs.Reading.{phaseOf}
-use Rattle.recovery.specs.declared.Work.{Work}
-use Rattle.recovery.specs.declared.Work.the-variants.{ReplayA, ReplayB}
+use Rattle.recovery.specs.declared.Remedy.{Remedy}
+use Rattle.recovery.specs.declared.Remedy.the-variants.{ReplayA, ReplayB}
 use Rattle.recovery.specs.declared.Progress.{Progress}
 use Rattle.recovery.specs.declared.Progress.the-variants.{Recovering}
-use Rattle.recovery.specs.Reading.{progressOf, workOf}
+use Rattle.recovery.specs.Reading.{progressOf, remedyOf}
 use Rattle.pool_c.specs.Reading.{Fits64, logIn, phaseIn, phaseOut, progressIn, progressOut, workIn, workOut}
 
 -- ---- in and out again
@@ -80,15 +80,15 @@ module _ (n : ℕ) (p : n ≡ 0 → ⊥) (q : n ≡ 1 → ⊥) (r : n ≡ 2 → 
   pub work-in-b : ((n - 3) % 2 ≡ 0 → ⊥) → replay fromB ((n - 3) / 2) ≡ workIn n
   work-in-b h = let e : (n - 3) % 2 ≡ 1 = omega (arith, h) in sym (work-in-replay ∙ ap (λ (x : ℕ). replay (logIn x) ((n - 3) / 2)) e)
 
-module _ {w : Work} {n : ℕ} where
-  pub work-out-a : w ≡ ReplayA n → 2 * n + 3 ≡ workOut (workOf w)
+module _ {w : Remedy} {n : ℕ} where
+  pub work-out-a : w ≡ ReplayA n → 2 * n + 3 ≡ workOut (remedyOf w)
   work-out-a e = rw e
 
-  pub work-out-b : w ≡ ReplayB n → 2 * n + 4 ≡ workOut (workOf w)
+  pub work-out-b : w ≡ ReplayB n → 2 * n + 4 ≡ workOut (remedyOf w)
   work-out-b e = rw e
 
-  pub work-room-a : w ≡ ReplayA n → Fits64 (workOut (workOf w)) → Fits64 (2 * n + 3)
+  pub work-room-a : w ≡ ReplayA n → Fits64 (workOut (remedyOf w)) → Fits64 (2 * n + 3)
   work-room-a e h = rw e at h
 
-  pub work-room-b : w ≡ ReplayB n → Fits64 (workOut (workOf w)) → Fits64 (2 * n + 4)
+  pub work-room-b : w ≡ ReplayB n → Fits64 (workOut (remedyOf w)) → Fits64 (2 * n + 4)
   work-room-b e h = rw e at h

@@ -4,13 +4,14 @@ use Prim.Native.Nat.{ℕ, zero, suc, _+_, _*_, _/_, _%_, _^_, _<_}
 use mathlib.Core.List.{List}
 use Rattle.rules.specs.Staging as Staging
 use Rattle.rules.specs.Staging.{Phase, closed, committing, live}
-use Rattle.rules.specs.Answer.{After, Answer, Changed, Given, address, done, passed, refused, started, stored, taken}
+use Rattle.rules.specs.Answer.{After, Answer, Changed, Given}
 use Rattle.rules.specs.Look as Looking
 use Rattle.rules.specs.Scrub as Scrubbing
 use Rattle.powercut.specs.Log.{Log, fromA, fromB}
 use Rattle.powercut.specs.Steps.{Remedy, clear, neither, nothing, replay}
 use Rattle.powercut.specs.Recovery as Recovering
 use Rattle.powercut.specs.Recovery.{Progress, RecoveryAfter, finished, recovering}
+use Rattle.answers.specs.Reading.{kindOf, valueOf}
 use Rattle.pool_c.specs.declared.pools.Part.{Part}
 use Rattle.pool_c.specs.declared.pools.Counts.{Counts}
 use Rattle.pool_c.specs.declared.transactions.Transaction.{Transaction}
@@ -22,31 +23,11 @@ use Rattle.pool_c.specs.declared.recoveries.RecoveryReply.{RecoveryReply
 abbrev pub Fits64 : ℕ → Type 0
 Fits64 n = n < 2 ^ 64
 
--- ---- An answer: its kind and its value.
-
-abbrev pub kindOut : Answer → ℕ
-kindOut (refused n) = 0
-kindOut (address a) = 1
-kindOut taken = 2
-kindOut started = 3
-kindOut (stored k) = 4
-kindOut (passed k) = 5
-kindOut (done k) = 6
-
-abbrev pub valueOut : Answer → ℕ
-valueOut (refused n) = n
-valueOut (address a) = a
-valueOut taken = 0
-valueOut started = 0
-valueOut (stored k) = k
-valueOut (passed k) = k
-valueOut (done k) = k
-
 -- ---- The calls on the pool alone.
 
 -- 0 where it is carried out, else the refusal's number; and the pool's bytes.
 abbrev pub changedOut : Changed → ℕ × List ℕ
-changedOut x = (valueOut (x .answer), x .pool)
+changedOut x = (valueOf (x .answer), x .pool)
 
 abbrev pub partOut : Looking.Look → Part
 partOut (Looking.part at n) = record { refusal = 0; offset = at; length = n }
@@ -80,7 +61,7 @@ givenIn t pool staging = record { pool = pool; staging = staging; txn = transact
 
 -- What it hands back: the reply, and the bytes of pool and staging.
 abbrev pub replyOut : Answer → Staging.Transaction → Reply
-replyOut a t = record { kind = kindOut a; value = valueOut a; transaction = transactionOut t }
+replyOut a t = record { kind = kindOf a; value = valueOf a; transaction = transactionOut t }
 
 abbrev pub afterOut : After → Reply × List ℕ × List ℕ
 afterOut x = (replyOut (x .answer) (x .left .txn), x .left .pool, x .left .staging)
@@ -121,7 +102,7 @@ recoveryOut r = record { work = workOut (r .work); phase = progressOut (r .phase
 
 -- What a call hands back: the reply, and the pool's bytes.
 abbrev pub recoveryReplyOut : Answer → Recovering.Recovery → RecoveryReply
-recoveryReplyOut a r = record { kind = kindOut a; value = valueOut a; recovery = recoveryOut r }
+recoveryReplyOut a r = record { kind = kindOf a; value = valueOf a; recovery = recoveryOut r }
 
 abbrev pub recoveryAfterOut : RecoveryAfter → RecoveryReply × List ℕ
 recoveryAfterOut x = (recoveryReplyOut (x .answer) (x .recovery), x .pool)

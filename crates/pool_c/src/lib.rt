@@ -1,7 +1,6 @@
 // The pool's calls for C: every function of include/pool.h under its name there, over the public calls of `pool`, `transaction` and
 // `recovery`. A struct or an enum of those goes in and out as a `#[repr(C)]` struct of numbers; specs/Reading.antt says what each number
 // means. No function for C has a `requires`: each contract is one equation with the definition that the contract of the call names.
-pub mod answer; // what the calls on a transaction and on a recovery answer, as two numbers
 pub mod pools; // the calls on the pool alone
 pub mod transactions; // the calls on a transaction
 pub mod recoveries; // the calls on a recovery

@@ -6,8 +6,9 @@ ghost use Rattle.rules.specs.Look.{look as looked};
 ghost use Rattle.rules.specs.Mend.{mendHeader};
 ghost use Rattle.rules.specs.Repair.{repair as repairCall};
 ghost use Rattle.rules.specs.Scrub.{scrub as scrubbed};
+ghost use Rattle.answers.specs.Reading.{valueOf};
 ghost use Rattle.pool.specs.Reading.{answerOf};
-ghost use Rattle.pool_c.specs.Reading.{changedOut, countsOut, partOut, valueOut};
+ghost use Rattle.pool_c.specs.Reading.{changedOut, countsOut, partOut};
 use pool::Outcome;
 use pool::Scrubbed;
 use reading::Body;
@@ -32,10 +33,10 @@ pub struct Counts {
 
 // The refusal's number, or 0.
 fn refusal(outcome: Outcome) -> usize
-    ensures { λ r. ⌜ r ≡ valueOut (answerOf outcome) ⌝ }
+    ensures { λ r. ⌜ r ≡ valueOf (answerOf outcome) ⌝ }
 {
     match outcome {
-        Outcome::Done => 0,
+        Outcome::Taken => 0,
         Outcome::Refused(n) => n as usize,
     }
 }

@@ -2,12 +2,12 @@
 ghost use mathlib.Core.Path.{_≡_};
 ghost use Rattle.powercut.specs.Recovery.{recoveryStart, recoveryStep};
 ghost use Rattle.answers.specs.Reading.{answerOf};
-ghost use Rattle.recovery.specs.Reading.{progressOf, recoveryOf, workOf};
+ghost use Rattle.recovery.specs.Reading.{progressOf, recoveryOf, remedyOf};
 ghost use Rattle.pool_c.specs.Reading.{Fits64, progressIn, progressOut, recoveryAfterOut, recoveryIn, recoveryReplyOut, workIn, workOut};
-use crate::answer::kind;
-use crate::answer::value;
+use answers::kind;
+use answers::value;
 use recovery::Progress;
-use recovery::Work;
+use recovery::Remedy;
 
 // What is to be done: 0 nothing, 1 clear both seals, 2 neither log is valid, 2n + 3 replay log A with n entries, 2n + 4 log B; and the phase:
 // 0 finished, k + 1 after k steps.
@@ -25,37 +25,37 @@ pub struct RecoveryReply {
     pub recovery: Recovery,
 }
 
-// The work that a number stands for.
-fn work_in(n: usize) -> Work
-    ensures { λ r. ⌜ workOf r ≡ workIn n ⌝ }
+// The remedy that a number stands for.
+fn work_in(n: usize) -> Remedy
+    ensures { λ r. ⌜ remedyOf r ≡ workIn n ⌝ }
 {
     if n == 0 {
-        return Work::Nothing;
+        return Remedy::Nothing;
     }
     if n == 1 {
-        return Work::Clear;
+        return Remedy::Clear;
     }
     if n == 2 {
-        return Work::Neither;
+        return Remedy::Neither;
     }
     let m = n - 3;
     if m % 2 == 0 {
-        return Work::ReplayA(m / 2);
+        return Remedy::ReplayA(m / 2);
     }
-    Work::ReplayB(m / 2)
+    Remedy::ReplayB(m / 2)
 }
 
-// The number of a work.
-fn work_out(work: Work) -> usize
-    requires { ⌜ Fits64 (workOut (workOf work)) ⌝ }
-    ensures { λ r. ⌜ r ≡ workOut (workOf work) ⌝ }
+// The number of a remedy.
+fn work_out(work: Remedy) -> usize
+    requires { ⌜ Fits64 (workOut (remedyOf work)) ⌝ }
+    ensures { λ r. ⌜ r ≡ workOut (remedyOf work) ⌝ }
 {
     match work {
-        Work::Nothing => 0,
-        Work::Clear => 1,
-        Work::Neither => 2,
-        Work::ReplayA(n) => 2 * n + 3,
-        Work::ReplayB(n) => 2 * n + 4,
+        Remedy::Nothing => 0,
+        Remedy::Clear => 1,
+        Remedy::Neither => 2,
+        Remedy::ReplayA(n) => 2 * n + 3,
+        Remedy::ReplayB(n) => 2 * n + 4,
     }
 }
 
@@ -91,7 +91,7 @@ fn decoded(r: Recovery) -> recovery::Recovery
 
 // The reply that goes out.
 fn encoded(r: recovery::Reply) -> RecoveryReply
-    requires { ⌜ Fits64 (workOut (workOf (r .recovery .work))) × Fits64 (progressOut (progressOf (r .recovery .phase))) ⌝ }
+    requires { ⌜ Fits64 (workOut (remedyOf (r .recovery .work))) × Fits64 (progressOut (progressOf (r .recovery .phase))) ⌝ }
     ensures { λ x. ⌜ x ≡ recoveryReplyOut (answerOf (r .answer)) (recoveryOf (r .recovery)) ⌝ }
 {
     let answer = r.answer;

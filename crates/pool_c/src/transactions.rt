@@ -8,8 +8,8 @@ ghost use Rattle.answers.specs.Reading.{answerOf};
 ghost use Rattle.record.specs.Reading.{phaseOf};
 ghost use Rattle.transaction.specs.Reading.{transactionOf};
 ghost use Rattle.pool_c.specs.Reading.{afterOut, Fits64, givenIn, phaseIn, phaseOut, replyOut, transactionIn, transactionOut};
-use crate::answer::kind;
-use crate::answer::value;
+use answers::kind;
+use answers::value;
 use record::Phase;
 use record::Record;
 

@@ -17,46 +17,46 @@ use Rattle.layout.specs.Reading.{opened, shapeOf}
 use Rattle.layout.proofs.Opening.{open-good, open-passed, open-refused}
 use Rattle.log.proofs.Targets.{loaded-word}
 use Rattle.answers.specs.declared.Answer.the-variants.{Refused}
-use Rattle.recovery.specs.declared.Work.{Work}
-use Rattle.recovery.specs.declared.Work.the-variants.{Clear, Neither, Nothing, ReplayA, ReplayB}
+use Rattle.recovery.specs.declared.Remedy.{Remedy}
+use Rattle.recovery.specs.declared.Remedy.the-variants.{Clear, Neither, Nothing, ReplayA, ReplayB}
 use Rattle.recovery.specs.declared.Progress.the-variants.{Finished}
 use Rattle.recovery.specs.declared.Reply.{Reply}
-use Rattle.recovery.specs.Reading.{afterOf, workOf}
+use Rattle.recovery.specs.Reading.{afterOf, remedyOf}
 use Rattle.recovery.specs.Advanced.{begun}
 
 -- ---- what is to be done
 
 -- a and b: the words where the logs begin, at m and n
 module _ (s : Shape) (p : List ℕ) (m n a b : ℕ) (em : m ≡ logA (shapeOf s)) (en : n ≡ logB (shapeOf s)) (la : Loaded 8 p m a) (lb : Loaded 8 p n b) (x : Bool) (ex : x ≡ valid (shapeOf s) p m) where
-  pub find-a : (k : ℕ) → x ≡ true → k ≡ countIn a → workOf (ReplayA k) ≡ remedy (shapeOf s) p
+  pub find-a : (k : ℕ) → x ≡ true → k ≡ countIn a → remedyOf (ReplayA k) ≡ remedy (shapeOf s) p
   unfolding remedy
   find-a k h f = rw (← em, ← ex, h, f, loaded-word la)
 
   module _ (hx : x ≡ false) (y : Bool) (ey : y ≡ valid (shapeOf s) p n) where
-    pub find-b : (k : ℕ) → y ≡ true → k ≡ countIn b → workOf (ReplayB k) ≡ remedy (shapeOf s) p
+    pub find-b : (k : ℕ) → y ≡ true → k ≡ countIn b → remedyOf (ReplayB k) ≡ remedy (shapeOf s) p
     unfolding remedy
     find-b k h f = rw (← em, ← en, ← ex, hx, ← ey, h, f, loaded-word lb)
 
     module _ (hy : y ≡ false) where
-      pub find-nothing : a ≡ 0 → b ≡ 0 → workOf Nothing ≡ remedy (shapeOf s) p
+      pub find-nothing : a ≡ 0 → b ≡ 0 → remedyOf Nothing ≡ remedy (shapeOf s) p
       unfolding remedy
       find-nothing ha hb = rw (← em, ← en, ← ex, hx, ← ey, hy, ← (loaded-word la), eq-eqb a 0 ha, ← (loaded-word lb), eq-eqb b 0 hb)
 
-      pub find-only-b : a ≡ 0 → (b ≡ 0 → ⊥) → workOf Clear ≡ remedy (shapeOf s) p
+      pub find-only-b : a ≡ 0 → (b ≡ 0 → ⊥) → remedyOf Clear ≡ remedy (shapeOf s) p
       unfolding remedy
       find-only-b ha hb = rw (← em, ← en, ← ex, hx, ← ey, hy, ← (loaded-word la), eq-eqb a 0 ha, ← (loaded-word lb), ne-eqb b 0 hb)
 
-      pub find-only-a : (a ≡ 0 → ⊥) → b ≡ 0 → workOf Clear ≡ remedy (shapeOf s) p
+      pub find-only-a : (a ≡ 0 → ⊥) → b ≡ 0 → remedyOf Clear ≡ remedy (shapeOf s) p
       unfolding remedy
       find-only-a ha hb = rw (← em, ← en, ← ex, hx, ← ey, hy, ← (loaded-word la), ne-eqb a 0 ha, ← (loaded-word lb), eq-eqb b 0 hb)
 
-      pub find-neither : (a ≡ 0 → ⊥) → (b ≡ 0 → ⊥) → workOf Neither ≡ remedy (shapeOf s) p
+      pub find-neither : (a ≡ 0 → ⊥) → (b ≡ 0 → ⊥) → remedyOf Neither ≡ remedy (shapeOf s) p
       unfolding remedy
       find-neither ha hb = rw (← em, ← en, ← ex, hx, ← ey, hy, ← (loaded-word la), ne-eqb a 0 ha, ← (loaded-word lb), ne-eqb b 0 hb)
 
 -- ---- the reply
 
-begun-start : (p : List ℕ) (w : Work) → afterOf (begun w) p ≡ startRecovery p (workOf w)
+begun-start : (p : List ℕ) (w : Remedy) → afterOf (begun w) p ≡ startRecovery p (remedyOf w)
 unfolding startRecovery
 begun-start p (ReplayA n) = refl
 begun-start p (ReplayB n) = refl
@@ -69,6 +69,6 @@ module _ (p : List ℕ) where
   unfolding recoveryStart concludeRecovery
   start-refused n e = rw (open-refused p n e)
 
-  pub start-begun : (s : Shape) (w : Work) (r : Reply) → opened p ≡ Opening.Good s → workOf w ≡ remedy (shapeOf s) p → r ≡ begun w → afterOf r p ≡ recoveryStart p
+  pub start-begun : (s : Shape) (w : Remedy) (r : Reply) → opened p ≡ Opening.Good s → remedyOf w ≡ remedy (shapeOf s) p → r ≡ begun w → afterOf r p ≡ recoveryStart p
   unfolding recoveryStart concludeRecovery
   start-begun s w r e f g = rw (passed-first (openTests p) (open-passed p s e), ← (open-good p s e .2), ← f, g) (begun-start p w)

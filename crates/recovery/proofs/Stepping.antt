@@ -31,13 +31,13 @@ use Rattle.log.proofs.Places.{log-room}
 use Rattle.steps.specs.declared.Action.{Action}
 use Rattle.steps.specs.Actions as Steps
 use Rattle.steps.proofs.Steps.{clear-step, computed-answer, computed-pool, ready-log, replay-step, told-answer}
-use Rattle.recovery.specs.declared.Work.{Work}
+use Rattle.recovery.specs.declared.Remedy as Code
 use Rattle.recovery.specs.declared.Progress.the-variants.{Finished, Recovering}
 use Rattle.recovery.specs.declared.Recovery.{Recovery}
 use Rattle.recovery.specs.declared.Reply.{Reply}
 use Rattle.recovery.specs.declared.Next.{Next}
 use Rattle.recovery.specs.declared.Next.the-variants.{Impossible, Make}
-use Rattle.recovery.specs.Reading.{afterOf, recoveryOf, workOf}
+use Rattle.recovery.specs.Reading.{afterOf, recoveryOf, remedyOf}
 use Rattle.recovery.specs.Advanced.{Makes, NextIs, advanced, impossibleAt, lostAt, replied}
 
 -- ---- the log, while data or parity is stored
@@ -125,7 +125,7 @@ module _ (s : Shape) (p : List ℕ) (k : ℕ) where
 -- ---- what the next step tells
 
 module _ (s : Shape) (p : List ℕ) (k : ℕ) where
-  pub next-of : {w v : Work} (r : Next) → w ≡ v → NextIs (shapeOf s) p (workOf v) k r → NextIs (shapeOf s) p (workOf w) k r
+  pub next-of : {w v : Code.Remedy} (r : Next) → w ≡ v → NextIs (shapeOf s) p (remedyOf v) k r → NextIs (shapeOf s) p (remedyOf w) k r
   next-of r e h = rw e h
 
   pub next-made : (w : Remedy) (r : Next) {a : Action} {n : ℕ} → NextIs (shapeOf s) p w k r → r ≡ Make a n → Makes (shapeOf s) p w k a n
@@ -137,36 +137,36 @@ module _ (s : Shape) (p : List ℕ) (k : ℕ) where
 -- ---- the reply
 
 module _ (s : Shape) (p : List ℕ) where
-  replied-step : (w : Work) (x : Step) (a : Action) (k n m : ℕ) → Steps.Computed (Steps.actionOf (shapeOf s) p x) m a
+  replied-step : (w : Code.Remedy) (x : Step) (a : Action) (k n m : ℕ) → Steps.Computed (Steps.actionOf (shapeOf s) p x) m a
       → afterOf (replied w a (k + 1) n) (Steps.applied a p)
-      ≡ record { answer = stepAnswer k n x; pool = stepPool (shapeOf s) x p; recovery = record { work = workOf w; phase = Paper.nextProgress k n } }
+      ≡ record { answer = stepAnswer k n x; pool = stepPool (shapeOf s) x p; recovery = record { work = remedyOf w; phase = Paper.nextProgress k n } }
   unfolding replied stepAnswer Paper.nextProgress
   replied-step w x a k n m c =
       rw (add-one k, computed-pool (shapeOf s) p x _ a m c refl) (split (eqb (suc k) n) (λ e. rw e)
       (λ e. rw (e, told-answer (suc k) a, computed-answer (shapeOf s) p x _ a m (suc k) c refl)))
 
   module _ (v : Recovery) where
-    pub advance-many : (x : Bool) → v .phase ≡ Finished → x ≡ Paper.countAbove (workOf (v .work)) → x ≡ true
+    pub advance-many : (x : Bool) → v .phase ≡ Finished → x ≡ Paper.countAbove (remedyOf (v .work)) → x ≡ true
         → record { answer = refused 10; pool = p; recovery = recoveryOf v } ≡ advanced (shapeOf s) p (recoveryOf v)
     unfolding advanced Paper.concludeRecovery first Paper.impossibleRecovery Paper.isRecovering
     advance-many x e f h = rw (e, ← f, h)
 
-    pub advance-finished : (x : Bool) → v .phase ≡ Finished → x ≡ Paper.countAbove (workOf (v .work)) → x ≡ false
+    pub advance-finished : (x : Bool) → v .phase ≡ Finished → x ≡ Paper.countAbove (remedyOf (v .work)) → x ≡ false
         → record { answer = refused 29; pool = p; recovery = recoveryOf v } ≡ advanced (shapeOf s) p (recoveryOf v)
     unfolding advanced Paper.concludeRecovery first Paper.impossibleRecovery Paper.isRecovering
     advance-finished x e f h = rw (e, ← f, h)
 
-    pub advance-impossible : (k : ℕ) → v .phase ≡ Recovering k → impossibleAt (shapeOf s) p (workOf (v .work)) k ≡ true
+    pub advance-impossible : (k : ℕ) → v .phase ≡ Recovering k → impossibleAt (shapeOf s) p (remedyOf (v .work)) k ≡ true
         → record { answer = refused 10; pool = p; recovery = recoveryOf v } ≡ advanced (shapeOf s) p (recoveryOf v)
     unfolding advanced Paper.concludeRecovery first
     advance-impossible k e h = rw (e, h)
 
-    pub advance-made : (k n : ℕ) (a : Action) (q : List ℕ) (r : Reply) → v .phase ≡ Recovering k → Makes (shapeOf s) p (workOf (v .work)) k a n → q ≡ Steps.applied a p → r ≡ replied (v .work) a (k + 1) n
+    pub advance-made : (k n : ℕ) (a : Action) (q : List ℕ) (r : Reply) → v .phase ≡ Recovering k → Makes (shapeOf s) p (remedyOf (v .work)) k a n → q ≡ Steps.applied a p → r ≡ replied (v .work) a (k + 1) n
         → afterOf r q ≡ advanced (shapeOf s) p (recoveryOf v)
     unfolding advanced Paper.concludeRecovery first Paper.isRecovering Paper.doneSteps
     advance-made k n a q r e m f g =
         rw (e, m .possible, ← (m .count), f, g)
-        (replied-step (v .work) (getD (recoverySteps (shapeOf s) p (workOf (v .work))) k barrier) a k n (length p) (m .computed))
+        (replied-step (v .work) (getD (recoverySteps (shapeOf s) p (remedyOf (v .work))) k barrier) a k n (length p) (m .computed))
 
 -- ---- a step, where the pool opens
 

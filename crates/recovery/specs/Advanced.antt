@@ -15,15 +15,15 @@ use Rattle.powercut.specs.Recovery as Paper
 use Rattle.answers.specs.declared.Answer.the-variants.{Done, Refused, Started}
 use Rattle.steps.specs.declared.Action.{Action}
 use Rattle.steps.specs.Actions.{Computed, actionOf, toldOf}
-use Rattle.recovery.specs.declared.Work.{Work}
-use Rattle.recovery.specs.declared.Work.the-variants.{Clear, Neither, Nothing, ReplayA, ReplayB}
+use Rattle.recovery.specs.declared.Remedy as Code
+use Rattle.recovery.specs.declared.Remedy.the-variants.{Clear, Neither, Nothing, ReplayA, ReplayB}
 use Rattle.recovery.specs.declared.Progress.the-variants.{Finished, Recovering}
 use Rattle.recovery.specs.declared.Reply.{Reply}
 use Rattle.recovery.specs.declared.Next.{Next}
 use Rattle.recovery.specs.declared.Next.the-variants.{Impossible, Make}
 
 -- The reply to a start: 22 if nothing can be done, done if there is no step.
-abbrev pub begun : Work → Reply
+abbrev pub begun : Code.Remedy → Reply
 begun (ReplayA n) = record { answer = Started; recovery = record { work = ReplayA n; phase = Recovering 0 } }
 begun (ReplayB n) = record { answer = Started; recovery = record { work = ReplayB n; phase = Recovering 0 } }
 begun Clear = record { answer = Started; recovery = record { work = Clear; phase = Recovering 0 } }
@@ -68,7 +68,7 @@ abbrev pub ReplayIs : Shape → List ℕ → ℕ → ℕ → ℕ → Next → Ty
 ReplayIs sh p b n k r = (l : Log) → b ≡ logAt sh l → NextIs sh p (replay l n) k r
 
 -- The reply to step k of n, from 1.
-unfoldable pub replied : Work → Action → ℕ → ℕ → Reply
+unfoldable pub replied : Code.Remedy → Action → ℕ → ℕ → Reply
 replied w a k n =
     cond (eqb k n) (record { answer = Done n; recovery = record { work = w; phase = Finished } })
     (record { answer = toldOf k a; recovery = record { work = w; phase = Recovering k } })

@@ -5,20 +5,20 @@ use Rattle.powercut.specs.Log.{fromA, fromB}
 use Rattle.powercut.specs.Steps.{Remedy, clear, neither, nothing, replay}
 use Rattle.powercut.specs.Recovery as Paper
 use Rattle.answers.specs.Reading.{answerOf}
-use Rattle.recovery.specs.declared.Work.{Work}
-use Rattle.recovery.specs.declared.Work.the-variants.{Clear, Neither, Nothing, ReplayA, ReplayB}
+use Rattle.recovery.specs.declared.Remedy as Code
+use Rattle.recovery.specs.declared.Remedy.the-variants.{Clear, Neither, Nothing, ReplayA, ReplayB}
 use Rattle.recovery.specs.declared.Progress.{Progress}
 use Rattle.recovery.specs.declared.Progress.the-variants.{Finished, Recovering}
 use Rattle.recovery.specs.declared.Recovery.{Recovery}
 use Rattle.recovery.specs.declared.Reply.{Reply}
 
 -- What is to be done.
-abbrev pub workOf : Work → Remedy
-workOf (ReplayA n) = replay fromA n
-workOf (ReplayB n) = replay fromB n
-workOf Clear = clear
-workOf Nothing = nothing
-workOf Neither = neither
+abbrev pub remedyOf : Code.Remedy → Remedy
+remedyOf (ReplayA n) = replay fromA n
+remedyOf (ReplayB n) = replay fromB n
+remedyOf Clear = clear
+remedyOf Nothing = nothing
+remedyOf Neither = neither
 
 -- The steps made so far, or all made.
 abbrev pub progressOf : Progress → Paper.Progress
@@ -27,7 +27,7 @@ progressOf Finished = Paper.finished
 
 -- The record.
 abbrev pub recoveryOf : Recovery → Paper.Recovery
-recoveryOf r = record { work = workOf (r .work); phase = progressOf (r .phase) }
+recoveryOf r = record { work = remedyOf (r .work); phase = progressOf (r .phase) }
 
 -- A reply, with the pool that the call leaves.
 abbrev pub afterOf : Reply → List ℕ → Paper.RecoveryAfter

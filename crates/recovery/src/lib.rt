@@ -7,7 +7,7 @@ ghost use Rattle.powercut.specs.Steps.{remedy};
 ghost use Rattle.powercut.specs.Recovery.{countAbove, recoveryStart, recoveryStep};
 ghost use Rattle.layout.specs.Reading.{Shaped, shapeOf};
 ghost use Rattle.log.specs.Places.{LogAt};
-ghost use Rattle.recovery.specs.Reading.{afterOf, recoveryOf, workOf};
+ghost use Rattle.recovery.specs.Reading.{afterOf, recoveryOf, remedyOf};
 ghost use Rattle.recovery.specs.Advanced.{NextIs, ReplayIs, advanced, begun, lostAt, replied};
 use answers::Answer;
 use layout::Opened;
@@ -15,7 +15,7 @@ use layout::Shape;
 use steps::Action;
 
 // What is to be done: log A or log B, with its count, replayed; both seals cleared; nothing; or neither log is valid and no seal zero.
-pub enum Work {
+pub enum Remedy {
     ReplayA(usize),
     ReplayB(usize),
     Clear,
@@ -31,7 +31,7 @@ pub enum Progress {
 
 // The record that goes from call to call.
 pub struct Recovery {
-    pub work: Work,
+    pub work: Remedy,
     pub phase: Progress,
 }
 
@@ -56,7 +56,7 @@ impl Recovery {
             Opened::Refused(n) => Reply {
                 answer: Answer::Refused(n),
                 recovery: Recovery {
-                    work: Work::Neither,
+                    work: Remedy::Neither,
                     phase: Progress::Finished,
                 },
             },
@@ -79,34 +79,34 @@ impl Recovery {
 }
 
 // What a recovery of the pool has to do.
-fn find(s: Shape, pool: &[u8]) -> Work
+fn find(s: Shape, pool: &[u8]) -> Remedy
     requires { ⌜ Shaped (now pool) (shapeOf s) ⌝ }
-    ensures { λ r. ⌜ workOf r ≡ remedy (shapeOf s) (now (pool .entry)) ⌝ }
+    ensures { λ r. ⌜ remedyOf r ≡ remedy (shapeOf s) (now (pool .entry)) ⌝ }
 {
     let at_a = s.log_a();
     let at_b = s.log_b();
     let a = words::load64(pool, at_a);
     let b = words::load64(pool, at_b);
     if log::valid(s, pool, at_a) {
-        return Work::ReplayA(log::count(a));
+        return Remedy::ReplayA(log::count(a));
     }
     if log::valid(s, pool, at_b) {
-        return Work::ReplayB(log::count(b));
+        return Remedy::ReplayB(log::count(b));
     }
     if a == 0 {
         if b == 0 {
-            return Work::Nothing;
+            return Remedy::Nothing;
         }
-        return Work::Clear;
+        return Remedy::Clear;
     }
     if b == 0 {
-        return Work::Clear;
+        return Remedy::Clear;
     }
-    Work::Neither
+    Remedy::Neither
 }
 
 // A recovery started; done at once if it has no step; refusal 22 if neither log is valid and no seal zero.
-fn begin(work: Work) -> Reply
+fn begin(work: Remedy) -> Reply
     ensures { λ r. ⌜ r ≡ begun work ⌝ }
 {
     let fresh = Recovery {
@@ -118,23 +118,23 @@ fn begin(work: Work) -> Reply
         phase: Progress::Finished,
     };
     match work {
-        Work::ReplayA(_) => Reply {
+        Remedy::ReplayA(_) => Reply {
             answer: Answer::Started,
             recovery: fresh,
         },
-        Work::ReplayB(_) => Reply {
+        Remedy::ReplayB(_) => Reply {
             answer: Answer::Started,
             recovery: fresh,
         },
-        Work::Clear => Reply {
+        Remedy::Clear => Reply {
             answer: Answer::Started,
             recovery: fresh,
         },
-        Work::Nothing => Reply {
+        Remedy::Nothing => Reply {
             answer: Answer::Done(0),
             recovery: ended,
         },
-        Work::Neither => Reply {
+        Remedy::Neither => Reply {
             answer: Answer::Refused(22),
             recovery: ended,
         },
@@ -167,34 +167,34 @@ fn advance(recovery: Recovery, s: Shape, pool: &mut [u8]) -> Reply
 }
 
 // Whether the count is above 127.
-fn many(work: Work) -> bool
-    ensures { λ r. ⌜ r ≡ countAbove (workOf work) ⌝ }
+fn many(work: Remedy) -> bool
+    ensures { λ r. ⌜ r ≡ countAbove (remedyOf work) ⌝ }
 {
     match work {
-        Work::ReplayA(n) => Shape::ENTRIES < n,
-        Work::ReplayB(n) => Shape::ENTRIES < n,
-        Work::Clear => false,
-        Work::Nothing => false,
-        Work::Neither => false,
+        Remedy::ReplayA(n) => Shape::ENTRIES < n,
+        Remedy::ReplayB(n) => Shape::ENTRIES < n,
+        Remedy::Clear => false,
+        Remedy::Nothing => false,
+        Remedy::Neither => false,
     }
 }
 
 // Step k of a recovery.
-fn next_step(work: Work, k: usize, s: Shape, pool: &[u8]) -> Next
+fn next_step(work: Remedy, k: usize, s: Shape, pool: &[u8]) -> Next
     requires { ⌜ Shaped (now pool) (shapeOf s) ⌝ }
-    ensures { λ r. ⌜ NextIs (shapeOf s) (now (pool .entry)) (workOf work) k r ⌝ }
+    ensures { λ r. ⌜ NextIs (shapeOf s) (now (pool .entry)) (remedyOf work) k r ⌝ }
 {
     match work {
-        Work::ReplayA(n) => replay_step(s, pool, s.log_a(), n, k),
-        Work::ReplayB(n) => replay_step(s, pool, s.log_b(), n, k),
-        Work::Clear => {
+        Remedy::ReplayA(n) => replay_step(s, pool, s.log_a(), n, k),
+        Remedy::ReplayB(n) => replay_step(s, pool, s.log_b(), n, k),
+        Remedy::Clear => {
             if 3 <= k {
                 return Next::Impossible;
             }
             Next::Make(steps::clear_action(s, pool, k), 3)
         }
-        Work::Nothing => Next::Impossible,
-        Work::Neither => Next::Impossible,
+        Remedy::Nothing => Next::Impossible,
+        Remedy::Neither => Next::Impossible,
     }
 }
 
@@ -230,7 +230,7 @@ fn lost(s: Shape, pool: &[u8], b: usize, n: usize, k: usize) -> bool
 }
 
 // The reply to step k of n, from 1: done with the last.
-fn told(work: Work, action: Action, k: usize, n: usize) -> Reply
+fn told(work: Remedy, action: Action, k: usize, n: usize) -> Reply
     ensures { λ r. ⌜ r ≡ replied work action k n ⌝ }
 {
     if k == n {
@@ -252,7 +252,7 @@ fn told(work: Work, action: Action, k: usize, n: usize) -> Reply
             recovery,
         },
         Action::Barrier => Reply {
-            answer: Answer::Passed(k),
+            answer: Answer::Barrier(k),
             recovery,
         },
     }

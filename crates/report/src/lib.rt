@@ -26,7 +26,7 @@ pub fn hex(name: &[u8], v: u64) {
 pub fn outcome(name: &[u8], o: Outcome) {
     io::write_all(STDOUT_FILENO, name);
     match o {
-        Outcome::Done => {
+        Outcome::Taken => {
             io::write_all(STDOUT_FILENO, b"done\n");
         }
         Outcome::Refused(n) => {
@@ -59,7 +59,7 @@ pub fn answer(name: &[u8], a: Answer) {
             io::write_all(STDOUT_FILENO, b"started\n");
         }
         Answer::Stored(k) => numbered(b"stored, step ", k),
-        Answer::Passed(k) => numbered(b"barrier, step ", k),
+        Answer::Barrier(k) => numbered(b"barrier, step ", k),
         Answer::Done(k) => numbered(b"done, steps ", k),
         Answer::Refused(n) => numbered(b"refused ", n as usize),
     }

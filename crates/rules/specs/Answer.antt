@@ -6,8 +6,8 @@ use mathlib.Core.Option.{Option, none, some}
 use mathlib.Core.List.{List}
 use Rattle.rules.specs.Staging.{Transaction}
 
--- An address; taken, that is carried out; of a commit or a recovery: started, a store or a barrier made as step k, done with step k; or
--- a refusal.
+-- An address; taken, that is carried out; of a commit or a recovery: started, a store made as step k, passed: a barrier (POOL_BARRIER) made as
+-- step k, done with step k; or a refusal.
 pub data Answer : Type 0 where
   address : ℕ → Answer
   taken : Answer

@@ -19,11 +19,30 @@ use Rattle.rules.proofs.Test.{first-passed, passed-left, passed-right}
 use Rattle.rules.proofs.Transaction.{call-refused}
 use Rattle.powercut.specs.WholeRun.{made}
 use Rattle.powercut.specs.Claim.{new}
+use Rattle.answers.specs.Reading.{answerOf}
 use Rattle.transaction.specs.declared.Transaction as Code
-use Rattle.transaction.specs.Reading.{givenOf, transactionOf}
-use Rattle.saving.specs.Saving.{Outcome, Saves, Told, committedFor, isDone, outcome, saveOn, saved, savedAs}
+use Rattle.transaction.specs.declared.Reply.{Reply}
+use Rattle.transaction.specs.Reading.{afterOf, givenOf, transactionOf}
+use Rattle.saving.specs.Reading.{outcomeOf}
+use Rattle.saving.specs.Saving.{Outcome, Saves, Told, committedFor, isDone, saveOn, saved, savedAs}
 use Rattle.saving.proofs.Uncut.{Ended, commit-ends, concluded, refused-is}
 use Rattle.powercut.proofs.RunMatches.{accepted-none}
+
+-- ---- what allocate hands back in a fresh transaction: r, with staging memory st, and whether it is a refusal
+
+pub record Allocated (pool staging : List ℕ) (tag : ℕ) (body : List ℕ) (r : Reply) (st : List ℕ) (b : Bool) : Type 0 where
+  pub typed : Typed (allocate tag body)
+  pub exact : afterOf r pool st ≡ call (begun pool staging) (allocate tag body)
+  pub told : b ≡ isRefused (answerOf (r .answer))
+
+pub allocated : {pool staging body st : List ℕ} {tag : ℕ} (t : Code.Transaction) {r : Reply} {b : Bool} → Typed (allocate tag body) → transactionOf t ≡ fresh
+    → afterOf r pool st ≡ call (givenOf t pool staging) (allocate tag body) → b ≡ isRefused (answerOf (r .answer)) → Allocated pool staging tag body r st b
+unfolding begun
+allocated {pool} {staging} {body} {st} {tag} t typed e q h = record {
+  typed = typed;
+  exact = q ∙ ap (λ (n : Transaction). call (record { pool = pool; staging = staging; txn = n }) (allocate tag body)) e;
+  told = h;
+}
 
 -- ---- what an answer tells
 
@@ -82,7 +101,7 @@ module _ (pool staging : List ℕ) (tag : ℕ) (body : List ℕ) where
     unfolding saved saveOn
     saved-told = split (isRefused (x .answer)) (λ r. rw r (refl, told-first r)) (λ f. rw f (told-last f))
 
-  -- ---- the ways out: z is what allocate answers and leaves, w what the commit does
+  -- ---- the ways out
 
   saves : (z : After) {o : Outcome} → Typed (allocate tag body) → z ≡ x → o ≡ saveOn z → Saves pool staging tag body o
   unfolding saved
@@ -94,21 +113,16 @@ module _ (pool staging : List ℕ) (tag : ℕ) (body : List ℕ) where
         told = λ sound. subst (λ (o : Outcome). Told pool tag body (o .pool) (o .answer)) (sym p) (saved-told sound typed .1);
       }
 
-  pub allocated : (t : Code.Transaction) {z : After} → transactionOf t ≡ fresh → z ≡ call (givenOf t pool staging) (allocate tag body) → z ≡ x
-  unfolding begun
-  allocated t e q = q ∙ ap (λ (n : Transaction). call (record { pool = pool; staging = staging; txn = n }) (allocate tag body)) e
-
-  pub save-refused : Typed (allocate tag body) → (t : Code.Transaction) (z : After) {b : Bool} → transactionOf t ≡ fresh → z ≡ call (givenOf t pool staging) (allocate tag body)
-      → b ≡ isRefused (z .answer) → b ≡ true → Saves pool staging tag body (outcome (z .answer) (z .left))
+  pub save-refused : {r : Reply} {st : List ℕ} {b : Bool} → Allocated pool staging tag body r st b → b ≡ true → Saves pool staging tag body (outcomeOf (r .answer) pool st)
   unfolding saveOn
-  save-refused typed t z e q r h = saves z typed (allocated t e q) (rw (sym r ∙ h))
+  save-refused a h = saves _ (a .typed) (a .exact) (rw (sym (a .told) ∙ h))
 
-  module _ (typed : Typed (allocate tag body)) (t : Code.Transaction) (z w : After) {b d : Bool} (e : transactionOf t ≡ fresh) (q : z ≡ call (givenOf t pool staging) (allocate tag body))
-      (r : b ≡ isRefused (z .answer)) (f : b ≡ false) (c : w ≡ committedFor 771 (z .left)) (l : d ≡ isDone (w .answer)) where
-    pub save-done : d ≡ true → Saves pool staging tag body (outcome (z .answer) (w .left))
+  -- l is what the commit hands back, with the pool p
+  module _ {r : Reply} {st p : List ℕ} {b d : Bool} (a : Allocated pool staging tag body r st b) (f : b ≡ false) (l : Reply) (c : afterOf l p st ≡ committedFor 771 (givenOf (r .transaction) pool st)) (e : d ≡ isDone (answerOf (l .answer))) where
+    pub save-done : d ≡ true → Saves pool staging tag body (outcomeOf (r .answer) p st)
     unfolding saveOn savedAs
-    save-done h = saves z typed (allocated t e q) (rw (sym r ∙ f, sym c, sym l ∙ h))
+    save-done h = saves _ (a .typed) (a .exact) (rw (sym (a .told) ∙ f, sym c, sym e ∙ h))
 
-    pub save-else : d ≡ false → Saves pool staging tag body (outcome (w .answer) (w .left))
+    pub save-else : d ≡ false → Saves pool staging tag body (outcomeOf (l .answer) p st)
     unfolding saveOn savedAs
-    save-else h = saves z typed (allocated t e q) (rw (sym r ∙ f, sym c, sym l ∙ h))
+    save-else h = saves _ (a .typed) (a .exact) (rw (sym (a .told) ∙ f, sym c, sym e ∙ h))

@@ -6,7 +6,6 @@ use mathlib.Core.List.{List, [], _∷_}
 use native.Mathlib.Omega.{arith}
 use Rattle.rules.specs.Header.{shapeIn}
 use Rattle.rules.specs.Book.{Listed, enter, strike}
-use Rattle.rules.specs.Staging.{fresh}
 use Rattle.rules.specs.Answer.{After, Answer, Given, address, isRefused, taken}
 use Rattle.rules.specs.Plan.{Call, allocate, plan, release}
 use Rattle.rules.specs.Calls.{Typed, begun, call, calls}
@@ -17,11 +16,12 @@ use Rattle.rules.proofs.Sound.{sound-fits}
 use Rattle.powercut.specs.WholeRun.{entries, made}
 use Rattle.powercut.specs.Claim.{new}
 use Rattle.powercut.proofs.RunMatches.{held}
-use Rattle.transaction.specs.declared.Transaction as Code
-use Rattle.transaction.specs.Reading.{givenOf, transactionOf}
+use Rattle.answers.specs.Reading.{answerOf}
+use Rattle.transaction.specs.declared.Reply.{Reply}
+use Rattle.transaction.specs.Reading.{afterOf, givenOf}
 use Rattle.saving.specs.TakenBack.{TakesBack, addressIn, both, freeOn, takenBack}
 use Rattle.saving.proofs.Uncut.{concluded}
-use Rattle.saving.proofs.Saved.{allocate-address, allocated, made-new}
+use Rattle.saving.proofs.Saved.{Allocated, allocate-address, made-new}
 use Rattle.saving.proofs.Ascending.{Ascends, held-ascends, strike-entered}
 
 free-taken : (g : Given) (a : ℕ) → isRefused (call g (release a) .answer) ≡ false → call g (release a) .answer ≡ taken
@@ -79,7 +79,7 @@ module _ (pool staging : List ℕ) (tag : ℕ) (body : List ℕ) where
         let p : freeOn x ≡ call (x .left) (release (a .0)) = on-allocated x i ∙ ap (λ (n : ℕ). call (x .left) (release n)) (address-is (x .answer) (a .0) (a .1)) in
         (a .0, ap (λ (y : After). y .left) p ∙ sym (both-left (a .0)), freed-same (a .0) (a .1) (subst (λ (y : After). isRefused (y .answer) ≡ false) p f)))
 
-  -- ---- the ways out: z is what allocate answers and leaves, w what free does
+  -- ---- the ways out
 
   takes : Typed (allocate tag body) → {w : After} → w ≡ freeOn x → TakesBack pool staging tag body w
   unfolding takenBack
@@ -88,9 +88,12 @@ module _ (pool staging : List ℕ) (tag : ℕ) (body : List ℕ) where
     same = λ sound f. subst (λ (y : After). (a : ℕ) × (y .left ≡ made pool staging (both a tag body) .left) × (new pool staging (both a tag body) ≡ bookOf pool)) (sym e) (back-same sound typed (subst (λ (y : After). isRefused (y .answer) ≡ false) e f));
   }
 
-  module _ (typed : Typed (allocate tag body)) (t : Code.Transaction) (z : After) {b : Bool} (e : transactionOf t ≡ fresh) (q : z ≡ call (givenOf t pool staging) (allocate tag body)) (r : b ≡ isRefused (z .answer)) where
-    pub back-refused : b ≡ true → TakesBack pool staging tag body z
-    back-refused h = takes typed (sym (on-refused z (sym r ∙ h)) ∙ ap freeOn (allocated pool staging tag body t e q))
+  module _ {r : Reply} {st : List ℕ} {b : Bool} (a : Allocated pool staging tag body r st b) where
+    pub back-refused : b ≡ true → TakesBack pool staging tag body (afterOf r pool st)
+    back-refused h = takes (a .typed) (sym (on-refused (afterOf r pool st) (sym (a .told) ∙ h)) ∙ ap freeOn (a .exact))
 
-    pub back-freed : b ≡ false → (n : ℕ) {w : After} → n ≡ addressIn (z .answer) → w ≡ call (z .left) (release n) → TakesBack pool staging tag body w
-    back-freed h n i p = takes typed (p ∙ ap (λ (m : ℕ). call (z .left) (release m)) i ∙ sym (on-allocated z (sym r ∙ h)) ∙ ap freeOn (allocated pool staging tag body t e q))
+    -- free of the address n hands l back, with staging memory st′
+    pub back-freed : b ≡ false → {n : ℕ} (l : Reply) {st′ : List ℕ} → n ≡ addressIn (answerOf (r .answer)) → afterOf l pool st′ ≡ call (givenOf (r .transaction) pool st) (release n)
+        → TakesBack pool staging tag body (afterOf l pool st′)
+    back-freed h l i p =
+        takes (a .typed) (p ∙ ap (λ (m : ℕ). call (givenOf (r .transaction) pool st) (release m)) i ∙ sym (on-allocated (afterOf r pool st) (sym (a .told) ∙ h)) ∙ ap freeOn (a .exact))

@@ -10,6 +10,8 @@ ghost use Rattle.saving.specs.Reading.{outcomeOf};
 ghost use Rattle.saving.specs.TakenBack.{addressIn, TakesBack};
 ghost use Rattle.saving.specs.Recovering.{Recovers};
 use answers::Answer;
+use answers::kind;
+use answers::value;
 use recovery::Recovery;
 use transaction::Reply;
 use transaction::Transaction;
@@ -17,29 +19,13 @@ use transaction::Transaction;
 fn is_done(answer: Answer) -> bool
     ensures { λ r. ⌜ r ≡ isDone (answerOf answer) ⌝ }
 {
-    match answer {
-        Answer::Address(_) => false,
-        Answer::Taken => false,
-        Answer::Started => false,
-        Answer::Stored(_) => false,
-        Answer::Passed(_) => false,
-        Answer::Done(_) => true,
-        Answer::Refused(_) => false,
-    }
+    kind(answer) == Answer::DONE
 }
 
 fn is_refused(answer: Answer) -> bool
     ensures { λ r. ⌜ r ≡ isRefused (answerOf answer) ⌝ }
 {
-    match answer {
-        Answer::Address(_) => false,
-        Answer::Taken => false,
-        Answer::Started => false,
-        Answer::Stored(_) => false,
-        Answer::Passed(_) => false,
-        Answer::Done(_) => false,
-        Answer::Refused(_) => true,
-    }
+    kind(answer) == Answer::REFUSED
 }
 
 // Whether this answer ends a commit or a recovery.
@@ -101,15 +87,10 @@ pub fn save(pool: &mut [u8], staging: &mut [u8], tag: u32, body: &[u8]) -> Answe
 fn address_in(answer: Answer) -> usize
     ensures { λ r. ⌜ r ≡ addressIn (answerOf answer) ⌝ }
 {
-    match answer {
-        Answer::Address(a) => a,
-        Answer::Taken => 0,
-        Answer::Started => 0,
-        Answer::Stored(_) => 0,
-        Answer::Passed(_) => 0,
-        Answer::Done(_) => 0,
-        Answer::Refused(_) => 0,
+    if kind(answer) == Answer::ADDRESS {
+        return value(answer);
     }
+    0
 }
 
 // Allocates an object and frees it again: where both calls are taken, a commit would leave the old book.

@@ -38,7 +38,7 @@ answerOf k Barrier = passed k
 -- The same answer by the code.
 abbrev pub toldOf : ℕ → Action → Told.Answer
 toldOf k (Store a v) = Cases.Stored k
-toldOf k Barrier = Cases.Passed k
+toldOf k Barrier = Cases.Barrier k
 
 -- The store lies inside n bytes.
 abbrev pub Inside : Action → ℕ → Type 0

@@ -1,7 +1,7 @@
 -- `pool::format` meets its contract. Assumes nothing.
 use mathlib.Core.Path.{refl, _∙_}
 use Rattle.layout.proofs.Range.{made-good}
-use Rattle.pool.proofs.Formatting.{format-done, format-id, format-length, format-range}
+use Rattle.pool.proofs.Formatting.{format-taken, format-id, format-length, format-range}
 use borrow.Author.Needs.{needs}
 use Rattle.pool.proofs.format.Statement.{statement}
 use Rattle.pool.proofs.format.Tie as tie
@@ -34,7 +34,7 @@ same-length : tie.Need-same-length
 same-length c = search needs
 
 returns-4 : tie.Need-returns-4
-returns-4 c = let n = c .before .before .before .before .before .before .before .before .before .before .new in format-done _ _ _ _ _ (n .result) (n .ensures .0) _ (c .before .before .before .before .before .before .before .before .s .given .1) _ (c .before .before .before .before .before .before .if1 .left) (c .before .before .before .before .before .size .ensures) _ (c .before .before .before .before .if2 .left) (c .before .before .fill .ensures)
+returns-4 c = let n = c .before .before .before .before .before .before .before .before .before .before .new in format-taken _ _ _ _ _ (n .result) (n .ensures .0) _ (c .before .before .before .before .before .before .before .before .s .given .1) _ (c .before .before .before .before .before .before .if1 .left) (c .before .before .before .before .before .size .ensures) _ (c .before .before .before .before .if2 .left) (c .before .before .fill .ensures)
 
 pub format-spec : {M : Type 1} → statement M
 format-spec =

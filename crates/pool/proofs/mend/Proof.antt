@@ -2,7 +2,7 @@
 use mathlib.Core.Path.{sym, _∙_}
 use borrow.Author.Needs.{needs}
 use Rattle.layout.proofs.Opening.{open-shaped}
-use Rattle.pool.proofs.Mending.{mend-done, mend-refused}
+use Rattle.pool.proofs.Mending.{mend-taken, mend-refused}
 use Rattle.pool.proofs.mend.Statement.{statement}
 use Rattle.pool.proofs.mend.Tie as tie
 
@@ -29,7 +29,7 @@ same-length-2 c = search needs
 
 returns-2 : tie.Need-returns-2
 returns-2 c =
-    mend-done _ _ _ (sym (c .before .before .before .before .before .before .before .«open» .ensures) ∙ c .before .before .before .before .before .s .given .1)
+    mend-taken _ _ _ (sym (c .before .before .before .before .before .before .before .«open» .ensures) ∙ c .before .before .before .before .before .s .given .1)
     (c .before .before .copy-header .ensures)
 
 pub mend-spec : {M : Type 1} → statement M

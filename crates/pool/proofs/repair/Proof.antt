@@ -6,7 +6,7 @@ use Rattle.rules.specs.Seals.{readTests}
 use Rattle.layout.specs.declared.Opened.the-variants.{Good}
 use Rattle.layout.specs.Reading.{answer}
 use Rattle.opening.proofs.Reading.{read-shaped}
-use Rattle.pool.proofs.Repairing.{Tested, columns-small, repair-above, repair-done, repair-length, repair-refused, repair-two}
+use Rattle.pool.proofs.Repairing.{Tested, columns-small, repair-above, repair-taken, repair-length, repair-refused, repair-two}
 use native.Mathlib.Omega.{arith}
 use borrow.Author.Needs.{needs}
 use Rattle.pool.proofs.repair.Statement.{statement}
@@ -79,7 +79,7 @@ same-length-5 : tie.Need-same-length-5
 same-length-5 c = search needs
 
 returns-5 : tie.Need-returns-5
-returns-5 c = repair-done (tested (c .before .before .before)) (c .before .before .repair-pages .ensures)
+returns-5 c = repair-taken (tested (c .before .before .before)) (c .before .before .repair-pages .ensures)
 
 pub repair-spec : {M : Type 1} → statement M
 repair-spec =

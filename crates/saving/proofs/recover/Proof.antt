@@ -43,8 +43,9 @@ loop-less c = search needs
 
 loop-again : tie.Need-loop-again Inv-loop μ-loop
 loop-again c =
-    let l = c .before .before .before .before .before .before .before .before .loop in
-    (search needs, recover-on (l .left) (afterOf (l .r) (l .pool)) _ (omega arith) (c .before .before .before .before .before .before .ends .ensures) (c .before .before .before .before .before .if1 .left) (c .before .before .step .ensures) ∙ l .inv .1)
+    let i = c .before .before .before .before .before in
+    let l = i .before .before .before .loop in
+    (search needs, recover-on (l .left) (afterOf (l .r) (l .pool)) _ (omega arith) (i .before .ends .ensures) (i .if1 .left) (c .before .before .step .ensures) ∙ l .inv .1)
 
 same-length-2 : tie.Need-same-length-2 Inv-loop μ-loop
 same-length-2 c = search needs

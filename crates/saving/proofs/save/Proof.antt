@@ -1,7 +1,6 @@
 -- `saving::save` meets its contract. Assumes nothing.
 use native.Mathlib.Omega.{arith}
-use Rattle.transaction.specs.Reading.{afterOf}
-use Rattle.saving.proofs.Saved.{save-done, save-else, save-refused}
+use Rattle.saving.proofs.Saved.{Allocated, allocated, save-done, save-else, save-refused}
 use borrow.Author.Needs.{needs}
 use Rattle.saving.proofs.save.Statement.{statement}
 use Rattle.saving.proofs.save.Tie as tie
@@ -21,12 +20,14 @@ same-length c = search needs
 same-length-2 : tie.Need-same-length-2
 same-length-2 c = search needs
 
+first : (c : tie.After-is-refused) → let s = c .before .before .before .before .before .before .before .before .before .before .args in let a = c .before .before .before .allocate in
+    Allocated (s .pool .now) (s .staging .now) (s .tag) (s .body .now) (a .result) (a .last .1 .1 .0) (c .is-refused .result)
+first c =
+    let n = c .before .before .before .before .before .before in
+    allocated (n .new .result) (omega (arith, n .before .before .before .before .fits .tag), λ i. omega (arith, n .before .shared-slice-known .given i)) (n .new .ensures) (c .before .before .before .allocate .ensures) (c .is-refused .ensures)
+
 returns : tie.Need-returns
-returns c =
-    let s = c .before .before .before .before .before .before .before .before .before .before .before .args in
-    let a = c .before .before .before .before .allocate in
-    save-refused (s .pool .now) (s .staging .now) (s .tag) (s .body .now) (omega arith, λ i. omega (arith, c .before .before .before .before .before .before .before .before .shared-slice-known .given i)) (c .before .before .before .before .before .before .before .new .result)
-    (afterOf (a .result) (s .pool .now) (a .last .1 .1 .0)) (c .before .before .before .before .before .before .before .new .ensures) (a .ensures) (c .before .is-refused .ensures) (c .if1 .taken)
+returns c = save-refused _ _ _ _ (first (c .before)) (c .if1 .taken)
 
 run-requires : tie.Need-run-requires
 run-requires c κs = search needs
@@ -42,12 +43,9 @@ same-length-4 c = search needs
 
 returns-2 : tie.Need-returns-2
 returns-2 c =
-    let s = c .before .before .before .before .before .before .before .before .before .before .before .before .before .before .before .before .before .before .before .args in
-    let a = c .before .before .before .before .before .before .before .before .before .before .before .before .allocate in
-    let r = c .before .before .before .before .run in
-    save-done (s .pool .now) (s .staging .now) (s .tag) (s .body .now) (omega (arith, c .before .before .before .before .before .before .before .before .before .before .before .before .before .before .before .before .before .before .before .fits .tag), λ i. omega (arith, c .before .before .before .before .before .before .before .before .before .before .before .before .before .before .before .before .shared-slice-known .given i)) (c .before .before .before .before .before .before .before .before .before .before .before .before .before .before .before .new .result)
-    (afterOf (a .result) (s .pool .now) (a .last .1 .1 .0)) (afterOf (r .result) (r .last .1 .0) (a .last .1 .1 .0)) (c .before .before .before .before .before .before .before .before .before .before .before .before .before .before .before .new .ensures) (a .ensures)
-    (c .before .before .before .before .before .before .before .before .before .is-refused .ensures) (c .before .before .before .before .before .before .before .before .if1 .left) (r .ensures) (c .before .is-done .ensures) (c .if2 .taken)
+    let r = c .before .before .before .before in
+    let f = r .before .before .before .before in
+    save-done _ _ _ _ (first (f .before)) (f .if1 .left) (r .run .result) (r .run .ensures) (c .before .is-done .ensures) (c .if2 .taken)
 
 same-length-5 : tie.Need-same-length-5
 same-length-5 c = search needs
@@ -57,12 +55,9 @@ same-length-6 c = search needs
 
 returns-3 : tie.Need-returns-3
 returns-3 c =
-    let s = c .before .before .before .before .before .before .before .before .before .before .before .before .before .before .before .before .before .before .before .args in
-    let a = c .before .before .before .before .before .before .before .before .before .before .before .before .allocate in
-    let r = c .before .before .before .before .run in
-    save-else (s .pool .now) (s .staging .now) (s .tag) (s .body .now) (omega (arith, c .before .before .before .before .before .before .before .before .before .before .before .before .before .before .before .before .before .before .before .fits .tag), λ i. omega (arith, c .before .before .before .before .before .before .before .before .before .before .before .before .before .before .before .before .shared-slice-known .given i)) (c .before .before .before .before .before .before .before .before .before .before .before .before .before .before .before .new .result)
-    (afterOf (a .result) (s .pool .now) (a .last .1 .1 .0)) (afterOf (r .result) (r .last .1 .0) (a .last .1 .1 .0)) (c .before .before .before .before .before .before .before .before .before .before .before .before .before .before .before .new .ensures) (a .ensures)
-    (c .before .before .before .before .before .before .before .before .before .is-refused .ensures) (c .before .before .before .before .before .before .before .before .if1 .left) (r .ensures) (c .before .is-done .ensures) (c .if2 .left)
+    let r = c .before .before .before .before in
+    let f = r .before .before .before .before in
+    save-else _ _ _ _ (first (f .before)) (f .if1 .left) (r .run .result) (r .run .ensures) (c .before .is-done .ensures) (c .if2 .left)
 
 pub save-spec : {M : Type 1} → statement M
 save-spec =

@@ -26,8 +26,9 @@ same-length c = search needs
 
 returns : tie.Need-returns Inv-loop μ-loop
 returns c =
-    let l = c .before .before .before .loop in
-    sym (steps-end (l .left) (afterOf (l .r) (l .pool) (c .before .before .before .before .before .before .args .staging .now)) (c .before .ends .ensures) (c .if1 .taken)) ∙ l .inv .1
+    let h = c .before .before .before in
+    let l = h .loop in
+    sym (steps-end (l .left) (afterOf (l .r) (l .pool) (h .before .before .before .args .staging .now)) (c .before .ends .ensures) (c .if1 .taken)) ∙ l .inv .1
 
 step-requires : tie.Need-step-requires Inv-loop μ-loop
 step-requires c κs = search needs
@@ -40,8 +41,10 @@ loop-less c = search needs
 
 loop-again : tie.Need-loop-again Inv-loop μ-loop
 loop-again c =
-    let l = c .before .before .before .before .before .before .before .before .loop in
-    (search needs, steps-on (l .left) (afterOf (l .r) (l .pool) (c .before .before .before .before .before .before .before .before .before .before .before .args .staging .now)) _ (omega arith) (c .before .before .before .before .before .before .ends .ensures) (c .before .before .before .before .before .if1 .left) (c .before .before .step .ensures) ∙ l .inv .1)
+    let i = c .before .before .before .before .before in
+    let h = i .before .before .before in
+    let l = h .loop in
+    (search needs, steps-on (l .left) (afterOf (l .r) (l .pool) (h .before .before .before .args .staging .now)) _ (omega arith) (i .before .ends .ensures) (i .if1 .left) (c .before .before .step .ensures) ∙ l .inv .1)
 
 same-length-2 : tie.Need-same-length-2 Inv-loop μ-loop
 same-length-2 c = search needs

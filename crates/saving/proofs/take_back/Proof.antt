@@ -1,6 +1,6 @@
 -- `saving::take_back` meets its contract. Assumes nothing.
 use native.Mathlib.Omega.{arith}
-use Rattle.transaction.specs.Reading.{afterOf}
+use Rattle.saving.proofs.Saved.{Allocated, allocated}
 use Rattle.saving.proofs.TakenBack.{back-freed, back-refused}
 use borrow.Author.Needs.{needs}
 use Rattle.saving.proofs.take_back.Statement.{statement}
@@ -18,12 +18,14 @@ is-refused-requires c κs = search needs
 same-length : tie.Need-same-length
 same-length c = search needs
 
+first : (c : tie.After-is-refused) → let s = c .before .before .before .before .before .before .before .before .before .args in let a = c .before .before .before .allocate in
+    Allocated (s .pool .now) (s .staging .now) (s .tag) (s .body .now) (a .result) (a .last .1 .1 .0) (c .is-refused .result)
+first c =
+    let n = c .before .before .before .before .before in
+    allocated (n .new .result) (omega (arith, n .before .before .before .before .fits .tag), λ i. omega (arith, n .before .shared-slice-known2 .given i)) (n .new .ensures) (c .before .before .before .allocate .ensures) (c .is-refused .ensures)
+
 returns : tie.Need-returns
-returns c =
-    let s = c .before .before .before .before .before .before .before .before .before .before .args in
-    let a = c .before .before .before .before .allocate in
-    back-refused (s .pool .now) (s .staging .now) (s .tag) (s .body .now) (omega (arith, c .before .before .before .before .before .before .before .before .before .before .fits .tag), λ i. omega (arith, c .before .before .before .before .before .before .before .shared-slice-known2 .given i)) (c .before .before .before .before .before .before .new .result)
-    (afterOf (a .result) (s .pool .now) (a .last .1 .1 .0)) (c .before .before .before .before .before .before .new .ensures) (a .ensures) (c .before .is-refused .ensures) (c .if1 .taken)
+returns c = back-refused _ _ _ _ (first (c .before)) (c .if1 .taken)
 
 address-in-requires : tie.Need-address-in-requires
 address-in-requires c κs = search needs
@@ -36,11 +38,9 @@ same-length-2 c = search needs
 
 returns-2 : tie.Need-returns-2
 returns-2 c =
-    let s = c .before .before .before .before .before .before .before .before .before .before .before .before .before .before .before .before .args in
-    let a = c .before .before .before .before .before .before .before .before .before .before .allocate in
-    back-freed (s .pool .now) (s .staging .now) (s .tag) (s .body .now) (omega (arith, c .before .before .before .before .before .before .before .before .before .before .before .before .before .before .before .before .fits .tag), λ i. omega (arith, c .before .before .before .before .before .before .before .before .before .before .before .before .before .shared-slice-known2 .given i)) (c .before .before .before .before .before .before .before .before .before .before .before .before .new .result)
-    (afterOf (a .result) (s .pool .now) (a .last .1 .1 .0)) (c .before .before .before .before .before .before .before .before .before .before .before .before .new .ensures) (a .ensures) (c .before .before .before .before .before .before .before .is-refused .ensures) (c .before .before .before .before .before .before .if1 .left)
-    (c .before .before .before .address-in .result) (c .before .before .before .address-in .ensures) (c .before .before .free .ensures)
+    let r = c .before .before in
+    let f = r .before .before .before .before in
+    back-freed _ _ _ _ (first (f .before)) (f .if1 .left) (r .free .result) (r .before .address-in .ensures) (r .free .ensures)
 
 pub take-back-spec : {M : Type 1} → statement M
 take-back-spec =

@@ -22,7 +22,7 @@ use Rattle.rules.proofs.Calls.{search-inv}
 use Rattle.zones.specs.Found.{foundOf}
 use Rattle.zones.specs.declared.Found.{Found}
 use Rattle.zones.specs.declared.Found.the-variants.{At, Refused}
-use Rattle.layout.specs.Reading.{InRange, shapeOf}
+use Rattle.layout.specs.Meaning.{InRange, shapeOf}
 use Rattle.layout.specs.declared.Shape.{Shape as LayoutShape}
 use Rattle.layout.proofs.Range.{bounds, shape-good, size-bounds}
 use Rattle.stage.specs.View.{entriesOf, seen}

@@ -9,7 +9,7 @@ ghost use Rattle.rules.specs.Plan.{allocate as allocateCall};
 ghost use Rattle.words.specs.Loaded.{Loaded};
 ghost use Rattle.stage.specs.View.{entriesOf, seen, Staged as StagedOn};
 ghost use Rattle.stage.specs.Touched.{missing, Room, TouchedWords};
-ghost use Rattle.layout.specs.Reading.{shapeOf, Shaped};
+ghost use Rattle.layout.specs.Meaning.{shapeOf, Shaped};
 ghost use Rattle.answers.specs.Planned.{leftOf, planned, stageEntries, Judged};
 ghost use Rattle.allocate.specs.Placed.{freeWords, placeObject, FitsBody, Placing};
 use answers::Answer;

@@ -11,10 +11,10 @@ use Rattle.rules.specs.Test.{Test, first, when}
 use Rattle.rules.specs.Staging.{Store, entryBytes}
 use Rattle.rules.specs.Answer.{Answer, refused}
 use Rattle.rules.specs.Plan.{Call, Plan, plan}
-use Rattle.layout.specs.Reading.{Shaped}
+use Rattle.layout.specs.Meaning.{Shaped}
 use Rattle.stage.specs.View.{Staged, entriesOf, seen}
 use Rattle.answers.specs.declared.Staged.{Staged as StagedBy}
-use Rattle.answers.specs.Reading.{answerOf}
+use Rattle.answers.specs.Meaning.{answerOf}
 
 -- The pool, staging memory with n entries, and the shape have passed what a transaction's calls meet first.
 pub record Judged (s : Shape) (pool staging : List ℕ) (n : ℕ) : Type 0 where

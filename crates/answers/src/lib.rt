@@ -1,7 +1,7 @@
 // What the calls on a transaction and on a recovery answer, an answer as two numbers, its kind and its value, and what a call that stages
 // words leaves.
 ghost use mathlib.Core.Path.{_≡_};
-ghost use Rattle.answers.specs.Reading.{answerOf, kindOf, valueOf};
+ghost use Rattle.answers.specs.Meaning.{answerOf, kindOf, valueOf};
 
 // 01 numbers the steps of a commit or of a recovery from 1.
 pub enum Answer {

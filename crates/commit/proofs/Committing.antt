@@ -24,13 +24,13 @@ use Rattle.answers.specs.declared.Answer.the-variants.{Done, Started}
 use Rattle.powercut.proofs.RunMatches.{list-length}
 use Rattle.layout.specs.declared.Shape.{Shape}
 use Rattle.layout.specs.declared.Opened.the-variants as Opening
-use Rattle.layout.specs.Reading.{answer, shapeOf}
-use Rattle.steps.specs.declared.Action.{Action}
-use Rattle.steps.specs.Actions as Steps
-use Rattle.steps.proofs.Steps.{commit-step, computed-answer, computed-pool, ready-staged, told-answer}
+use Rattle.layout.specs.Meaning.{answer, shapeOf}
+use Rattle.actions.specs.declared.Action.{Action}
+use Rattle.actions.specs.Actions as Steps
+use Rattle.actions.proofs.Steps.{commit-step, computed-answer, computed-pool, ready-staged, told-answer}
 use Rattle.record.specs.declared.Phase.the-variants.{Closed, Committing}
 use Rattle.record.specs.declared.Record.{Record}
-use Rattle.record.specs.Reading.{given, inPhase}
+use Rattle.record.specs.Meaning.{given, inPhase}
 use Rattle.record.proofs.Judging.{record-passed, record-possible, record-room, record-shape, record-shaped}
 use Rattle.commit.specs.declared.Stepped.{Stepped}
 use Rattle.commit.specs.Stepped.{afterOf, madeOf, startedWith, steppedTo}

@@ -10,12 +10,12 @@ use Rattle.rules.specs.Answer.{After, Given}
 use Rattle.powercut.specs.Steps.{Step, barrier, commitSteps, stepPool}
 use Rattle.powercut.specs.Commit.{nextPhase, stepAnswer}
 use Rattle.answers.specs.declared.Answer.the-variants.{Done, Started}
-use Rattle.answers.specs.Reading.{answerOf}
-use Rattle.steps.specs.declared.Action.{Action}
-use Rattle.steps.specs.Actions.{toldOf}
+use Rattle.answers.specs.Meaning.{answerOf}
+use Rattle.actions.specs.declared.Action.{Action}
+use Rattle.actions.specs.Actions.{toldOf}
 use Rattle.record.specs.declared.Phase.the-variants.{Closed, Committing}
 use Rattle.record.specs.declared.Record.{Record}
-use Rattle.record.specs.Reading.{given, inPhase}
+use Rattle.record.specs.Meaning.{given, inPhase}
 use Rattle.commit.specs.declared.Stepped.{Stepped}
 
 -- The answer, with pool, staging and record afterwards.

@@ -9,16 +9,16 @@ ghost use Rattle.rules.specs.Seals.{unsealed};
 ghost use Rattle.rules.specs.Staging.{commitLength};
 ghost use Rattle.rules.specs.Calls.{recordTests};
 ghost use Rattle.powercut.specs.Commit.{commitStep};
-ghost use Rattle.layout.specs.Reading.{answer, InRange, Shaped, shapeOf};
+ghost use Rattle.layout.specs.Meaning.{answer, InRange, Shaped, shapeOf};
 ghost use Rattle.layout.specs.declared.Opened.the-variants.{Good};
-ghost use Rattle.steps.specs.Actions.{Ready};
-ghost use Rattle.record.specs.Reading.{given};
+ghost use Rattle.actions.specs.Actions.{Ready};
+ghost use Rattle.record.specs.Meaning.{given};
 ghost use Rattle.commit.specs.Stepped.{afterOf, madeOf, startedWith, steppedTo};
+use actions::Action;
 use answers::Answer;
 use layout::Shape;
 use record::Phase;
 use record::Record;
-use steps::Action;
 
 // What a start or a step answers, and the record then.
 pub struct Stepped {
@@ -96,8 +96,8 @@ fn make(s: Shape, pool: &mut [u8], staging: &[u8], txn: Record, k: usize) -> Ste
     ensures { λ r. ⌜ afterOf r (now (pool .exit)) (now (staging .entry)) ≡ madeOf (shapeOf s) (given (now (pool .entry)) (now (staging .entry)) txn) k ⌝ }
 {
     let n = txn.count;
-    let action = steps::commit_action(s, pool, staging, n, k);
-    steps::apply(pool, action);
+    let action = actions::commit_action(s, pool, staging, n, k);
+    actions::apply(pool, action);
     told(txn, action, k + 1, record::steps(n))
 }
 

@@ -2,21 +2,24 @@
 // several subsets of the stores since the last barrier: none, all, every other one, each one alone, all but each one. After each cut the pool
 // is recovered, the object looked for and the pool scrubbed. What is printed is compared with `stdout`, which was worked out apart from this
 // code.
+mod memory; // stores kept or lost by a cut
+mod table; // counts in rows
+
+use crate::memory::copy;
+use crate::memory::lay;
+use crate::memory::noted;
+use crate::table::Table;
+use crate::table::Tally;
+use crate::table::entered;
+use crate::table::heading;
+use crate::table::more;
+use crate::table::none;
+use crate::table::row;
+use crate::table::sum;
+use crate::table::total;
 use answers::Answer;
 use answers::kind;
-use memory::copy;
-use memory::lay;
-use memory::noted;
 use pool::Scrubbed;
-use table::Table;
-use table::Tally;
-use table::entered;
-use table::heading;
-use table::more;
-use table::none;
-use table::row;
-use table::sum;
-use table::total;
 use transaction::Transaction;
 
 // The body of the object that is saved: a whole cell with its head.

@@ -14,8 +14,8 @@ fn change(updated: &[u8], whole: &[u8], s: &mut [u8], v: u8) {
         let before = sums::check(s);
         let u = s[96];
         s[96] = v;
-        report::value(updated, sums::updated(before, 4000, u, v));
-        report::value(whole, sums::check(s));
+        examples::report::value(updated, sums::updated(before, 4000, u, v));
+        examples::report::value(whole, sums::check(s));
     }
 }
 
@@ -28,10 +28,10 @@ fn main() {
     let high = [255u8; 1200];
     let mut long = io::large_buffer();
     let mut part = io::buffer();
-    report::check(b"check of 1200 bytes ff: ", &high, 1200);
+    examples::report::check(b"check of 1200 bytes ff: ", &high, 1200);
     ramp(&mut long);
-    report::check(b"check of 65536 bytes: ", &long, 65536);
+    examples::report::check(b"check of 65536 bytes: ", &long, 65536);
     ramp(&mut part);
-    report::check(b"check of 4096 bytes: ", &part, 4096);
+    examples::report::check(b"check of 4096 bytes: ", &part, 4096);
     changes(&mut part);
 }

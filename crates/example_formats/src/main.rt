@@ -4,16 +4,16 @@
 // Formats the first `n` bytes of `s`.
 fn format(name: &[u8], s: &mut [u8], n: usize, rows: usize, cols: usize, zones: usize, id: u64) {
     if n <= s.len() {
-        report::outcome(name, pool::format(&mut s[0..n], rows, cols, zones, id));
+        examples::report::outcome(name, pool::format(&mut s[0..n], rows, cols, zones, id));
     }
 }
 
 fn lengths(s: &mut [u8]) {
     format(b"format 2 2 1 in 6144 bytes: ", s, 6144, 2, 2, 1, 1);
-    report::check(b"check of that pool: ", s, 6144);
+    examples::report::check(b"check of that pool: ", s, 6144);
     format(b"format 2 2 1 in 6143 bytes: ", s, 6143, 2, 2, 1, 1);
     format(b"format 2 2 1 in 6145 bytes: ", s, 6145, 2, 2, 1, 1);
-    report::check(b"check of that pool: ", s, 6144);
+    examples::report::check(b"check of that pool: ", s, 6144);
 }
 
 fn ranges(s: &mut [u8]) {
@@ -34,7 +34,7 @@ fn ids(s: &mut [u8]) {
         2,
         1311768467463790320,
     );
-    report::check(b"check of that pool: ", s, 14848);
+    examples::report::check(b"check of that pool: ", s, 14848);
 }
 
 fn main() {

@@ -14,8 +14,8 @@ fn set(s: &mut [u8], at: usize, b: u8) {
 fn forged(name: &[u8], p: &mut [u8], s: &mut [u8], count: usize, phase: Phase) {
     let txn = Record { count, phase };
     let t = Transaction { txn };
-    calls::step(name, t, p, s);
-    calls::allocate(b"  allocate with it: ", t, p, s, 5, b"a");
+    examples::calls::step(name, t, p, s);
+    examples::calls::allocate(b"  allocate with it: ", t, p, s, 5, b"a");
 }
 
 // A count above 127, a target outside the data rows, a place past the list of steps.

@@ -1,8 +1,8 @@
 // A commit cut and recovered in the pool R 2, C 2, Z 1: the bench example of document 01 on a cut with only seal A stored, and what a recovery
 // refuses. What is printed is compared with the stored values in `stdout`, which were worked out apart from this code.
-use calls::look;
+use examples::calls::look;
+use examples::report::answer;
 use recovery::Recovery;
-use report::answer;
 use transaction::Transaction;
 
 fn set(s: &mut [u8], at: usize, b: u8) {
@@ -13,7 +13,7 @@ fn set(s: &mut [u8], at: usize, b: u8) {
 
 // Cut after 42 steps: the entries and seal A.
 fn cuts(p: &mut [u8], s: &mut [u8]) {
-    let t = calls::allocate(
+    let t = examples::calls::allocate(
         b"allocate tag 5, body 61: ",
         Transaction::new(),
         p,
@@ -21,7 +21,7 @@ fn cuts(p: &mut [u8], s: &mut [u8]) {
         5,
         b"a",
     );
-    calls::commit(b"  cut with seal A alone: ", t, p, s, 42);
+    examples::calls::commit(b"  cut with seal A alone: ", t, p, s, 42);
     look(p);
 }
 
@@ -34,7 +34,7 @@ fn recover(name: &[u8], p: &mut [u8]) {
 
 fn recovers(p: &mut [u8]) {
     recover(b"  recovery: ", p);
-    report::check(b"  check of that pool: ", p, 6144);
+    examples::report::check(b"  check of that pool: ", p, 6144);
     look(p);
     recover(b"  recovery of that pool: ", p);
 }

@@ -1,9 +1,9 @@
 // What allocate, write and free refuse, in the pool R 2, C 2, Z 1. What is printed is compared with the stored values in `stdout`, which were
 // worked out apart from this code.
-use calls::allocate;
-use calls::begin;
-use calls::free;
-use calls::write;
+use examples::calls::allocate;
+use examples::calls::begin;
+use examples::calls::free;
+use examples::calls::write;
 
 fn set(s: &mut [u8], at: usize, b: u8) {
     if at < s.len() {

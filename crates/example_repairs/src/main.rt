@@ -1,6 +1,6 @@
 // Headers mended and pages repaired, and what mending and repair refuse: the bench examples of document 01 on loss masks, and others. What is
 // printed is compared with the stored values in `stdout`, which were worked out apart from this code.
-use report::outcome;
+use examples::report::outcome;
 
 fn set(s: &mut [u8], at: usize, b: u8) {
     if at < s.len() {
@@ -21,13 +21,13 @@ fn mends(p: &mut [u8]) {
     mend(b"mend a fresh pool: ", p, 6144);
     set(p, 4, 3);
     mend(b"mend the header: ", p, 6144);
-    report::check(b"check of that pool: ", p, 6144);
+    examples::report::check(b"check of that pool: ", p, 6144);
 }
 
 fn copies(p: &mut [u8]) {
     set(p, 300, 1);
     mend(b"mend the copy: ", p, 6144);
-    report::check(b"check of that pool: ", p, 6144);
+    examples::report::check(b"check of that pool: ", p, 6144);
     set(p, 0, 0);
     set(p, 256, 0);
     mend(b"mend with neither valid: ", p, 6144);
@@ -58,7 +58,7 @@ fn repairs(p: &mut [u8]) {
     pool::format(p, 2, 2, 1, 1);
     set(p, 5632, 77);
     outcome(b"repair with mask 4: ", pool::repair(p, &lost));
-    report::check(b"check of that pool: ", p, 6144);
+    examples::report::check(b"check of that pool: ", p, 6144);
 }
 
 fn refused_repairs(p: &mut [u8]) {

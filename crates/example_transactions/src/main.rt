@@ -1,11 +1,11 @@
 // Transactions committed in the pool R 2, C 2, Z 1: the bench examples of document 01 on entries, steps and refusal 27, and others. What is
 // printed is compared with the stored values in `stdout`, which were worked out apart from this code.
-use calls::allocate;
-use calls::begin;
-use calls::commit;
-use calls::free;
-use calls::look;
-use calls::write;
+use examples::calls::allocate;
+use examples::calls::begin;
+use examples::calls::commit;
+use examples::calls::free;
+use examples::calls::look;
+use examples::calls::write;
 use transaction::Transaction;
 
 fn allocates(p: &mut [u8], s: &mut [u8]) {
@@ -43,7 +43,7 @@ fn together(p: &mut [u8], s: &mut [u8]) {
     let t = retaken(t, p, s);
     commit(b"  commit: ", t, p, s, 771);
     look(p);
-    report::body(b"  look at 8: ", p, 8);
+    examples::report::body(b"  look at 8: ", p, 8);
 }
 
 fn retaken(t: Transaction, p: &[u8], s: &mut [u8]) -> Transaction {

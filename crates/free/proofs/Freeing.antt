@@ -18,7 +18,7 @@ use Rattle.rules.specs.Plan.{joinedAt, plan, release, touchJoined}
 use Rattle.rules.proofs.Test.{first-passed}
 use Rattle.rules.proofs.Calls.{Named as NamedRun, object-named}
 use Rattle.layout.specs.declared.Shape.{Shape}
-use Rattle.layout.specs.Reading.{shapeOf}
+use Rattle.layout.specs.Meaning.{shapeOf}
 use Rattle.layout.proofs.Range.{shape-good, size-bounds}
 use Rattle.stage.specs.View.{entriesOf, seen}
 use Rattle.stage.specs.Touched.{TouchedWords, missing}

@@ -7,7 +7,7 @@ ghost use Rattle.rules.specs.Runs.{freeHead};
 ghost use Rattle.rules.specs.Staging.{Tidy, touchWords};
 ghost use Rattle.rules.specs.Answer.{taken};
 ghost use Rattle.rules.specs.Plan.{release};
-ghost use Rattle.layout.specs.Reading.{shapeOf};
+ghost use Rattle.layout.specs.Meaning.{shapeOf};
 ghost use Rattle.stage.specs.View.{entriesOf};
 ghost use Rattle.answers.specs.Planned.{Judged, leftOf, planned, stageEntries};
 use answers::Answer;

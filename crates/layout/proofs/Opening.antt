@@ -19,7 +19,7 @@ use Rattle.rules.proofs.Header.{passed-range, same-eq}
 use Rattle.layout.specs.declared.Shape.{Shape}
 use Rattle.layout.specs.declared.Opened.{Opened}
 use Rattle.layout.specs.declared.Opened.the-variants.{Good, Refused}
-use Rattle.layout.specs.Reading.{InRange, Shaped, answer, opened, openedBy, shapeFrom, shapeOf}
+use Rattle.layout.specs.Meaning.{InRange, Shaped, answer, opened, openedBy, shapeFrom, shapeOf}
 use Rattle.layout.proofs.Range.{shape-good, size-bounds}
 
 -- ---- by the header page h, a pool of n bytes

@@ -14,7 +14,7 @@ use Rattle.rules.proofs.Header.{header-range, range-good, range-ranged}
 use Rattle.layout.specs.declared.Shape.{Shape}
 use Rattle.layout.specs.declared.Made.{Made}
 use Rattle.layout.specs.declared.Made.the-variants.{Good as MadeGood, OutOfRange}
-use Rattle.layout.specs.Reading.{InRange, checked, good, madeOf, refused, shapeOf}
+use Rattle.layout.specs.Meaning.{InRange, checked, good, madeOf, refused, shapeOf}
 
 pub shape-good : (s : Shape) → InRange (shapeOf s) → Good (shapeOf s)
 shape-good s r = range-good (shapeOf s) (r .paged) (r .ranged)

@@ -5,7 +5,7 @@ ghost use Prim.Native.Nat.{_*_, _≤_, _<_};
 ghost use lib.ListN.{length};
 ghost use Rattle.rules.specs.Shape.{InZones, bodyLimit, byteAt, entryLimit, logA, logB, pageSize, poolSize, rowAt, rowSize, shape, stagingSize, zoneAt, zoneCells, zoneSize, zonesAt};
 ghost use Rattle.rules.specs.Header.{headerOk, pageAt, same};
-ghost use Rattle.layout.specs.Reading.{InRange, checked, madeOf, opened, openedBy, shapeOf};
+ghost use Rattle.layout.specs.Meaning.{InRange, checked, madeOf, opened, openedBy, shapeOf};
 
 // Bytes of a page, data rows of a zone, pages of a row, zones.
 pub struct Shape {

@@ -1,3 +1,4 @@
 pub mod Targets
 pub mod Places
 pub mod Logs
+pub mod Opening

@@ -19,7 +19,7 @@ use Rattle.rules.proofs.Transaction.{entries-count}
 use Rattle.powercut.specs.Log.{checkIn, countIn, logEntries, markIn, sealOf, valid}
 use Rattle.words.specs.Loaded.{Loaded}
 use Rattle.layout.specs.declared.Shape.{Shape}
-use Rattle.layout.specs.Reading.{shapeOf}
+use Rattle.layout.specs.Meaning.{shapeOf}
 use Rattle.log.specs.Targets.{allFit, checkOf, read}
 use Rattle.log.proofs.Targets.{loaded-word}
 

@@ -8,7 +8,7 @@ use Rattle.rules.specs.Shape.{Shape as PoolShape, entryLimit, entrySize, logA, 
 use Rattle.rules.proofs.Shape.{Good}
 use Rattle.powercut.specs.Log.{Log, fromA, fromB, logAt}
 use Rattle.layout.specs.declared.Shape.{Shape}
-use Rattle.layout.specs.Reading.{Shaped, shapeOf}
+use Rattle.layout.specs.Meaning.{Shaped, shapeOf}
 use Rattle.layout.proofs.Range.{shape-good}
 use Rattle.layout.proofs.Opening.{shaped-room}
 use Rattle.log.specs.Places.{LogAt}

@@ -19,7 +19,7 @@ use Rattle.rules.proofs.Numbers.{less}
 use Rattle.rules.proofs.Shape.{Good, cell-self, off-lt, row-in-zone, span-pos, zone-below, zone-cells, zone-end, zone-low}
 use Rattle.words.specs.Loaded.{Loaded}
 use Rattle.layout.specs.declared.Shape.{Shape}
-use Rattle.layout.specs.Reading.{InRange, shapeOf}
+use Rattle.layout.specs.Meaning.{InRange, shapeOf}
 use Rattle.layout.proofs.Range.{shape-good}
 use Rattle.log.specs.Targets.{DataRows, RowsFor, absentFrom, allFit, checkOf, fits, markCount, markOf, read}
 

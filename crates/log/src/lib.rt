@@ -1,14 +1,18 @@
-// Entries judged, the seal over them, and whether a log is valid (01, "Commit, cut, recovery"): the same for staging and for a log.
+// Entries judged, the seal over them, and whether a log is valid (01, "Commit, cut, recovery"): the same for staging and for a log; and a pool
+// opened by a call that reads it: its header and its seals.
 ghost use mathlib.Core.Path.{_≡_};
 ghost use mathlib.Core.Bool.{true, _&&_};
 ghost use Prim.Native.Nat.{_+_, _*_, _%_, _^_, _≤_, _<_};
 ghost use lib.Dec.{eqb, leb, ltb};
 ghost use lib.ListN.{length};
-ghost use Rattle.rules.specs.Seals.{unsealed};
-ghost use Rattle.layout.specs.Reading.{InRange, Shaped, shapeOf};
+ghost use Rattle.rules.specs.Test.{first};
+ghost use Rattle.rules.specs.Header.{shapeIn};
+ghost use Rattle.rules.specs.Seals.{readTests, unsealed};
+ghost use Rattle.layout.specs.Meaning.{InRange, Shaped, answer, shapeOf};
 ghost use Rattle.powercut.specs.Log.{countIn, sealOf, valid as validLog};
 ghost use Rattle.log.specs.Places.{LogAt};
 ghost use Rattle.log.specs.Targets.{DataRows, RowsFor, absentFrom, allFit, checkOf, markCount, markOf, read};
+use layout::Opened;
 use layout::Shape;
 
 // The marks that targets share.
@@ -180,4 +184,19 @@ pub fn seals_zero(s: Shape, p: &[u8]) -> bool
         return false;
     }
     words::load64(p, b) == 0
+}
+
+// The pool's shape, or the first of refusals 2, 3, 4, 2, 21.
+pub fn quiet(pool: &[u8]) -> Opened
+    ensures { λ r. ⌜ r ≡ answer (first (readTests (now (pool .entry)))) (shapeIn (now (pool .entry))) ⌝ }
+{
+    match layout::open(pool) {
+        Opened::Refused(n) => Opened::Refused(n),
+        Opened::Good(s) => {
+            if seals_zero(s, pool) {
+                return Opened::Good(s);
+            }
+            Opened::Refused(21)
+        }
+    }
 }

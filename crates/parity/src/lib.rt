@@ -6,7 +6,7 @@ ghost use lib.ListN.{length};
 ghost use Rattle.rules.specs.Shape.{InZones, parityAt, poolSize};
 ghost use Rattle.rules.specs.Parity.{parityWord};
 ghost use Rattle.rules.specs.Scrub.{columnRight, countTo, wrongColumns};
-ghost use Rattle.layout.specs.Reading.{InRange, shapeOf};
+ghost use Rattle.layout.specs.Meaning.{InRange, shapeOf};
 ghost use Rattle.columns.specs.Column.{Word};
 use layout::Shape;
 

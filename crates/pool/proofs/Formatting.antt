@@ -13,11 +13,11 @@ use Rattle.rules.specs.Format.{formatTests, formatted, freshPool}
 use Rattle.layout.specs.declared.Shape.{Shape}
 use Rattle.layout.specs.declared.Made.{Made}
 use Rattle.layout.specs.declared.Made.the-variants as Making
-use Rattle.layout.specs.Reading.{InRange, checked, madeOf, shapeOf}
+use Rattle.layout.specs.Meaning.{InRange, checked, madeOf, shapeOf}
 use Rattle.layout.proofs.Range.{bounds, made-good, made-out, size-bounds}
 use Rattle.pages.specs.Written.{HeaderFits}
 use Rattle.pool.specs.declared.Outcome.the-variants.{Refused, Taken}
-use Rattle.pool.specs.Reading.{changed}
+use Rattle.pool.specs.Meaning.{changed}
 
 or-true : (b : Bool) → (b || true) ≡ true
 or-true true = refl

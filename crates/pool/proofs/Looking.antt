@@ -13,13 +13,13 @@ use Rattle.rules.specs.Look.{Look, concludeLook, look, lookTests, part, refused
 use Rattle.rules.proofs.Test.{first-left, first-passed, first-right}
 use Rattle.layout.specs.declared.Shape.{Shape}
 use Rattle.layout.specs.declared.Opened.the-variants as Opening
-use Rattle.layout.specs.Reading.{answer, shapeOf}
+use Rattle.layout.specs.Meaning.{answer, shapeOf}
 use Rattle.layout.proofs.Opening.{answer-refused, open-good}
-use Rattle.opening.proofs.Reading.{read-none, read-opened}
-use Rattle.reading.specs.declared.Body.{Body}
-use Rattle.reading.specs.declared.Body.the-variants.{At, Refused}
-use Rattle.reading.specs.Reading.{Within, lookIn, lookOf}
-use Rattle.pool.specs.Reading.{refusalOf}
+use Rattle.log.proofs.Opening.{read-none, read-opened}
+use Rattle.zones.specs.declared.Body.{Body}
+use Rattle.zones.specs.declared.Body.the-variants.{At, Refused}
+use Rattle.zones.specs.Body.{Within, lookIn, lookOf}
+use Rattle.pool.specs.Meaning.{refusalOf}
 
 -- ---- the object at an address of a pool opened for reading
 

@@ -13,10 +13,10 @@ use Rattle.rules.specs.Mend.{mendHeader, mended}
 use Rattle.rules.proofs.Test.{passed-first}
 use Rattle.layout.specs.declared.Shape.{Shape}
 use Rattle.layout.specs.declared.Opened.the-variants as Opening
-use Rattle.layout.specs.Reading.{opened}
+use Rattle.layout.specs.Meaning.{opened}
 use Rattle.layout.proofs.Opening.{open-passed, open-refused}
 use Rattle.pool.specs.declared.Outcome.the-variants.{Refused, Taken}
-use Rattle.pool.specs.Reading.{changed}
+use Rattle.pool.specs.Meaning.{changed}
 
 -- pages of n bytes, as the code takes them: from 0 up to n, and from n up to m
 module _ (p : List ℕ) (n m : ℕ) (e : n ≡ pageSize) (f : m ≡ 2 * n) where

@@ -14,12 +14,12 @@ use Rattle.rules.specs.Repair.{anyAbove, anyTwo, repair, repairTests, repaired}
 use Rattle.rules.proofs.Test.{Passed, first-left, first-passed, first-right}
 use Rattle.layout.specs.declared.Shape.{Shape}
 use Rattle.layout.specs.declared.Opened.the-variants as Opening
-use Rattle.layout.specs.Reading.{answer, shapeOf}
+use Rattle.layout.specs.Meaning.{answer, shapeOf}
 use Rattle.layout.proofs.Range.{bounds}
 use Rattle.layout.proofs.Opening.{answer-refused, open-good}
 use Rattle.pool.specs.declared.Outcome.the-variants.{Refused, Taken}
-use Rattle.pool.specs.Reading.{changed}
-use Rattle.opening.proofs.Reading.{read-none, read-opened, read-shaped}
+use Rattle.pool.specs.Meaning.{changed}
+use Rattle.log.proofs.Opening.{read-none, read-opened, read-shaped}
 
 -- the pool opened for the shape s, and masks that every test passes
 pub record Tested (p ms : List ℕ) (s : Shape) : Type 0 where

@@ -8,9 +8,9 @@ use Rattle.rules.specs.Seals.{readTests}
 use Rattle.rules.specs.Scrub.{concludeScrub, counts, refused, scrub}
 use Rattle.layout.specs.declared.Shape.{Shape}
 use Rattle.layout.specs.declared.Opened.the-variants as Opening
-use Rattle.layout.specs.Reading.{answer, shapeOf}
+use Rattle.layout.specs.Meaning.{answer, shapeOf}
 use Rattle.layout.proofs.Opening.{answer-refused, open-good}
-use Rattle.opening.proofs.Reading.{read-none, read-opened}
+use Rattle.log.proofs.Opening.{read-none, read-opened}
 use Rattle.scrub.specs.Counted.{Counted}
 
 module _ (p : List ℕ) where

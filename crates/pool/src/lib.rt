@@ -9,14 +9,14 @@ ghost use Rattle.rules.specs.Mend.{mended, mendHeader};
 ghost use Rattle.rules.specs.Repair.{repair as repairCall};
 ghost use Rattle.rules.specs.Look.{look as looked, part, seen};
 ghost use Rattle.rules.specs.Scrub.{scrub as scrubbed};
-ghost use Rattle.layout.specs.Reading.{InRange, Shaped, shapeOf};
-ghost use Rattle.reading.specs.Reading.{lookOf, Within};
+ghost use Rattle.layout.specs.Meaning.{InRange, Shaped, shapeOf};
+ghost use Rattle.zones.specs.Body.{lookOf, Within};
 ghost use Rattle.pool.specs.Fill.{headsFrom};
-ghost use Rattle.pool.specs.Reading.{changed, refusalOf, scrubOf};
+ghost use Rattle.pool.specs.Meaning.{changed, refusalOf, scrubOf};
 use layout::Made;
 use layout::Opened;
 use layout::Shape;
-use reading::Body;
+use zones::Body;
 
 // What a call on the pool alone answers.
 pub enum Outcome {
@@ -110,7 +110,7 @@ fn copy_header(pool: &mut [u8], s: Shape)
 pub fn repair(pool: &mut [u8], lost: &[u16]) -> Outcome
     ensures { λ r. ⌜ changed r (now (pool .exit)) ≡ repairCall (now (pool .entry)) (now (lost .entry)) ⌝ }
 {
-    match opening::quiet(pool) {
+    match log::quiet(pool) {
         Opened::Refused(n) => Outcome::Refused(n),
         Opened::Good(s) => {
             if lost.len() != s.zones * s.cols {
@@ -132,9 +132,9 @@ pub fn repair(pool: &mut [u8], lost: &[u16]) -> Outcome
 pub fn look_for(pool: &[u8], address: usize) -> Body
     ensures { λ r. ⌜ (lookOf r ≡ looked (now (pool .entry)) address) × Within (now (pool .entry)) r ⌝ }
 {
-    match opening::quiet(pool) {
+    match log::quiet(pool) {
         Opened::Refused(n) => Body::Refused(n),
-        Opened::Good(s) => reading::body_at(pool, s, address),
+        Opened::Good(s) => zones::body_at(pool, s, address),
     }
 }
 
@@ -162,7 +162,7 @@ pub fn look(pool: &[u8], address: usize) -> &[u8]
 pub fn scrub(pool: &[u8]) -> Scrubbed
     ensures { λ r. ⌜ scrubOf r ≡ scrubbed (now (pool .entry)) ⌝ }
 {
-    match opening::quiet(pool) {
+    match log::quiet(pool) {
         Opened::Refused(n) => Scrubbed::Refused(n),
         Opened::Good(s) => {
             let c = scrub::count_pool(pool, s);

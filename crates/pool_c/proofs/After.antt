@@ -7,21 +7,21 @@ use Rattle.rules.specs.Answer.{After, Changed, Given}
 use Rattle.rules.specs.Plan.{Call}
 use Rattle.rules.specs.Calls.{call}
 use Rattle.powercut.specs.Recovery.{RecoveryAfter}
-use Rattle.answers.specs.Reading.{answerOf, valueOf}
-use Rattle.record.specs.Reading.{phaseOf}
+use Rattle.answers.specs.Meaning.{answerOf, valueOf}
+use Rattle.record.specs.Meaning.{phaseOf}
 use Rattle.pool.specs.declared.Outcome.{Outcome}
-use Rattle.pool.specs.Reading as Pool
+use Rattle.pool.specs.Meaning as Pool
 use Rattle.transaction.specs.declared.Transaction as Public
 use Rattle.transaction.specs.declared.Reply as PublicReply
-use Rattle.transaction.specs.Reading.{afterOf, givenOf, transactionOf}
+use Rattle.transaction.specs.Meaning.{afterOf, givenOf, transactionOf}
 use Rattle.recovery.specs.declared.Reply as PublicRecovery
-use Rattle.recovery.specs.Reading as Recovery
-use Rattle.recovery.specs.Reading.{recoveryOf}
+use Rattle.recovery.specs.Meaning as Recovery
+use Rattle.recovery.specs.Meaning.{recoveryOf}
 use Rattle.pool_c.specs.declared.transactions.Transaction.{Transaction}
 use Rattle.pool_c.specs.declared.transactions.Reply.{Reply}
 use Rattle.pool_c.specs.declared.recoveries.Recovery as C
 use Rattle.pool_c.specs.declared.recoveries.RecoveryReply.{RecoveryReply}
-use Rattle.pool_c.specs.Reading.{Fits64, afterOut, changedOut, givenIn, phaseIn, phaseOut, recoveryAfterOut, recoveryIn, recoveryReplyOut, replyOut, transactionIn}
+use Rattle.pool_c.specs.Meaning.{Fits64, afterOut, changedOut, givenIn, phaseIn, phaseOut, recoveryAfterOut, recoveryIn, recoveryReplyOut, replyOut, transactionIn}
 use Rattle.pool_c.proofs.Reading.{phase-out-in, progress-out-in, work-out-in}
 use Rattle.pool_c.proofs.Fits.{Fits, Keeps, call-fits}
 

@@ -23,7 +23,7 @@ use Rattle.powercut.specs.Steps.{Remedy, clear, neither, nothing, remedy, repla
 use Rattle.powercut.specs.Commit.{commitList, commitStart, commitStep, commitTests, nextPhase, placeIn, startPhase}
 use Rattle.powercut.specs.Recovery.{Recovery, RecoveryAfter, concludeRecovery, doneSteps, nextProgress, recoveryList, recoveryStart, recoveryStep, startRecovery}
 use Rattle.powercut.proofs.RunMatches.{again-inside}
-use Rattle.pool_c.specs.Reading.{Fits64, phaseOut, progressOut, workOut}
+use Rattle.pool_c.specs.Meaning.{Fits64, phaseOut, progressOut, workOut}
 
 -- ---- a transaction
 

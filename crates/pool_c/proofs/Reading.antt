@@ -8,13 +8,13 @@ use Rattle.powercut.specs.Steps.{replay}
 use Rattle.powercut.specs.Recovery.{recovering}
 use Rattle.record.specs.declared.Phase.{Phase}
 use Rattle.record.specs.declared.Phase.the-variants.{Committing}
-use Rattle.record.specs.Reading.{phaseOf}
+use Rattle.record.specs.Meaning.{phaseOf}
 use Rattle.recovery.specs.declared.Remedy.{Remedy}
 use Rattle.recovery.specs.declared.Remedy.the-variants.{ReplayA, ReplayB}
 use Rattle.recovery.specs.declared.Progress.{Progress}
 use Rattle.recovery.specs.declared.Progress.the-variants.{Recovering}
-use Rattle.recovery.specs.Reading.{progressOf, remedyOf}
-use Rattle.pool_c.specs.Reading.{Fits64, logIn, phaseIn, phaseOut, progressIn, progressOut, workIn, workOut}
+use Rattle.recovery.specs.Meaning.{progressOf, remedyOf}
+use Rattle.pool_c.specs.Meaning.{Fits64, logIn, phaseIn, phaseOut, progressIn, progressOut, workIn, workOut}
 
 -- ---- in and out again
 

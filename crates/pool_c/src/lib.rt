@@ -1,5 +1,5 @@
 // The pool's calls for C: every function of include/pool.h under its name there, over the public calls of `pool`, `transaction` and
-// `recovery`. A struct or an enum of those goes in and out as a `#[repr(C)]` struct of numbers; specs/Reading.antt says what each number
+// `recovery`. A struct or an enum of those goes in and out as a `#[repr(C)]` struct of numbers; specs/Meaning.antt says what each number
 // means. No function for C has a `requires`: each contract is one equation with the definition that the contract of the call names.
 pub mod pools; // the calls on the pool alone
 pub mod transactions; // the calls on a transaction

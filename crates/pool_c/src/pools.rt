@@ -6,12 +6,12 @@ ghost use Rattle.rules.specs.Look.{look as looked};
 ghost use Rattle.rules.specs.Mend.{mendHeader};
 ghost use Rattle.rules.specs.Repair.{repair as repairCall};
 ghost use Rattle.rules.specs.Scrub.{scrub as scrubbed};
-ghost use Rattle.answers.specs.Reading.{valueOf};
-ghost use Rattle.pool.specs.Reading.{answerOf};
-ghost use Rattle.pool_c.specs.Reading.{changedOut, countsOut, partOut};
+ghost use Rattle.answers.specs.Meaning.{valueOf};
+ghost use Rattle.pool.specs.Meaning.{answerOf};
+ghost use Rattle.pool_c.specs.Meaning.{changedOut, countsOut, partOut};
 use pool::Outcome;
 use pool::Scrubbed;
-use reading::Body;
+use zones::Body;
 
 // The part of the pool that holds a body; or the refusal, and zeros.
 #[repr(C)]

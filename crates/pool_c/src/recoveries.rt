@@ -1,9 +1,9 @@
 // The calls on a recovery.
 ghost use mathlib.Core.Path.{_≡_};
 ghost use Rattle.powercut.specs.Recovery.{recoveryStart, recoveryStep};
-ghost use Rattle.answers.specs.Reading.{answerOf};
-ghost use Rattle.recovery.specs.Reading.{progressOf, recoveryOf, remedyOf};
-ghost use Rattle.pool_c.specs.Reading.{Fits64, progressIn, progressOut, recoveryAfterOut, recoveryIn, recoveryReplyOut, workIn, workOut};
+ghost use Rattle.answers.specs.Meaning.{answerOf};
+ghost use Rattle.recovery.specs.Meaning.{progressOf, recoveryOf, remedyOf};
+ghost use Rattle.pool_c.specs.Meaning.{Fits64, progressIn, progressOut, recoveryAfterOut, recoveryIn, recoveryReplyOut, workIn, workOut};
 use answers::kind;
 use answers::value;
 use recovery::Progress;

@@ -19,7 +19,7 @@ use Rattle.rules.specs.Calls.{liveTests, recordTests}
 use Rattle.rules.proofs.Test.{Passed, first-left, first-passed, first-right, not-not, passed-right}
 use Rattle.layout.specs.declared.Shape.{Shape}
 use Rattle.layout.specs.declared.Opened.the-variants as Opening
-use Rattle.layout.specs.Reading.{Shaped, answer, opened, shapeOf}
+use Rattle.layout.specs.Meaning.{Shaped, answer, opened, shapeOf}
 use Rattle.layout.proofs.Range.{shape-good}
 use Rattle.layout.proofs.Opening.{answer-good, answer-opened, answer-refused, open-good, open-passed, open-refused, open-shaped}
 use Rattle.log.specs.Targets.{allFit, read}
@@ -28,7 +28,7 @@ use Rattle.stage.proofs.View.{staged-good}
 use Rattle.answers.specs.Planned.{Judged}
 use Rattle.record.specs.declared.Phase as Code
 use Rattle.record.specs.declared.Phase.the-variants.{Closed, Committing, Open}
-use Rattle.record.specs.Reading.{phaseOf}
+use Rattle.record.specs.Meaning.{phaseOf}
 use Rattle.rules.proofs.Bool.{or-false}
 
 -- ---- the number of steps

@@ -9,8 +9,8 @@ ghost use Rattle.rules.specs.Header.{shapeIn};
 ghost use Rattle.rules.specs.Test.{first};
 ghost use Rattle.rules.specs.Staging.{commitLength, impossible, isLive, pastCommit};
 ghost use Rattle.rules.specs.Calls.{liveTests, recordTests};
-ghost use Rattle.layout.specs.Reading.{answer, InRange, shapeOf};
-ghost use Rattle.record.specs.Reading.{given, phaseOf, recordOf};
+ghost use Rattle.layout.specs.Meaning.{answer, InRange, shapeOf};
+ghost use Rattle.record.specs.Meaning.{given, phaseOf, recordOf};
 use layout::Opened;
 use layout::Shape;
 

@@ -13,7 +13,7 @@ use Rattle.powercut.specs.Recovery.{concludeRecovery, recoveryStart, startRecov
 use Rattle.words.specs.Loaded.{Loaded}
 use Rattle.layout.specs.declared.Shape.{Shape}
 use Rattle.layout.specs.declared.Opened.the-variants as Opening
-use Rattle.layout.specs.Reading.{opened, shapeOf}
+use Rattle.layout.specs.Meaning.{opened, shapeOf}
 use Rattle.layout.proofs.Opening.{open-good, open-passed, open-refused}
 use Rattle.log.proofs.Targets.{loaded-word}
 use Rattle.answers.specs.declared.Answer.the-variants.{Refused}
@@ -21,7 +21,7 @@ use Rattle.recovery.specs.declared.Remedy.{Remedy}
 use Rattle.recovery.specs.declared.Remedy.the-variants.{Clear, Neither, Nothing, ReplayA, ReplayB}
 use Rattle.recovery.specs.declared.Progress.the-variants.{Finished}
 use Rattle.recovery.specs.declared.Reply.{Reply}
-use Rattle.recovery.specs.Reading.{afterOf, remedyOf}
+use Rattle.recovery.specs.Meaning.{afterOf, remedyOf}
 use Rattle.recovery.specs.Advanced.{begun}
 
 -- ---- what is to be done

@@ -23,21 +23,21 @@ use Rattle.powercut.proofs.StepCount.{clear-count, replay-count}
 use Rattle.words.specs.Loaded.{Loaded}
 use Rattle.layout.specs.declared.Shape.{Shape}
 use Rattle.layout.specs.declared.Opened.the-variants as Opening
-use Rattle.layout.specs.Reading.{Shaped, opened, shapeOf}
+use Rattle.layout.specs.Meaning.{Shaped, opened, shapeOf}
 use Rattle.layout.proofs.Opening.{open-good, open-passed, open-refused}
 use Rattle.log.specs.Places.{LogAt}
 use Rattle.log.proofs.Targets.{loaded-word}
 use Rattle.log.proofs.Places.{log-room}
-use Rattle.steps.specs.declared.Action.{Action}
-use Rattle.steps.specs.Actions as Steps
-use Rattle.steps.proofs.Steps.{clear-step, computed-answer, computed-pool, ready-log, replay-step, told-answer}
+use Rattle.actions.specs.declared.Action.{Action}
+use Rattle.actions.specs.Actions as Steps
+use Rattle.actions.proofs.Steps.{clear-step, computed-answer, computed-pool, ready-log, replay-step, told-answer}
 use Rattle.recovery.specs.declared.Remedy as Code
 use Rattle.recovery.specs.declared.Progress.the-variants.{Finished, Recovering}
 use Rattle.recovery.specs.declared.Recovery.{Recovery}
 use Rattle.recovery.specs.declared.Reply.{Reply}
 use Rattle.recovery.specs.declared.Next.{Next}
 use Rattle.recovery.specs.declared.Next.the-variants.{Impossible, Make}
-use Rattle.recovery.specs.Reading.{afterOf, recoveryOf, remedyOf}
+use Rattle.recovery.specs.Meaning.{afterOf, recoveryOf, remedyOf}
 use Rattle.recovery.specs.Advanced.{Makes, NextIs, advanced, impossibleAt, lostAt, replied}
 
 -- ---- the log, while data or parity is stored

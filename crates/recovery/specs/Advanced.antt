@@ -13,8 +13,8 @@ use Rattle.powercut.specs.Steps.{Remedy, Step, barrier, recoverySteps, replay, 
 use Rattle.powercut.specs.Commit.{stepAnswer}
 use Rattle.powercut.specs.Recovery as Paper
 use Rattle.answers.specs.declared.Answer.the-variants.{Done, Refused, Started}
-use Rattle.steps.specs.declared.Action.{Action}
-use Rattle.steps.specs.Actions.{Computed, actionOf, toldOf}
+use Rattle.actions.specs.declared.Action.{Action}
+use Rattle.actions.specs.Actions.{Computed, actionOf, toldOf}
 use Rattle.recovery.specs.declared.Remedy as Code
 use Rattle.recovery.specs.declared.Remedy.the-variants.{Clear, Neither, Nothing, ReplayA, ReplayB}
 use Rattle.recovery.specs.declared.Progress.the-variants.{Finished, Recovering}

@@ -5,14 +5,14 @@ ghost use Prim.Native.Nat.{_≤_};
 ghost use Rattle.rules.specs.Shape.{entryLimit};
 ghost use Rattle.powercut.specs.Steps.{remedy};
 ghost use Rattle.powercut.specs.Recovery.{countAbove, recoveryStart, recoveryStep};
-ghost use Rattle.layout.specs.Reading.{Shaped, shapeOf};
+ghost use Rattle.layout.specs.Meaning.{Shaped, shapeOf};
 ghost use Rattle.log.specs.Places.{LogAt};
-ghost use Rattle.recovery.specs.Reading.{afterOf, recoveryOf, remedyOf};
+ghost use Rattle.recovery.specs.Meaning.{afterOf, recoveryOf, remedyOf};
 ghost use Rattle.recovery.specs.Advanced.{NextIs, ReplayIs, advanced, begun, lostAt, replied};
+use actions::Action;
 use answers::Answer;
 use layout::Opened;
 use layout::Shape;
-use steps::Action;
 
 // What is to be done: log A or log B, with its count, replayed; both seals cleared; nothing; or neither log is valid and no seal zero.
 pub enum Remedy {
@@ -159,7 +159,7 @@ fn advance(recovery: Recovery, s: Shape, pool: &mut [u8]) -> Reply
                 recovery,
             },
             Next::Make(action, n) => {
-                steps::apply(pool, action);
+                actions::apply(pool, action);
                 told(work, action, k + 1, n)
             }
         },
@@ -191,7 +191,7 @@ fn next_step(work: Remedy, k: usize, s: Shape, pool: &[u8]) -> Next
             if 3 <= k {
                 return Next::Impossible;
             }
-            Next::Make(steps::clear_action(s, pool, k), 3)
+            Next::Make(actions::clear_action(s, pool, k), 3)
         }
         Remedy::Nothing => Next::Impossible,
         Remedy::Neither => Next::Impossible,
@@ -212,7 +212,7 @@ fn replay_step(s: Shape, pool: &[u8], b: usize, n: usize, k: usize) -> Next
     if lost(s, pool, b, n, k) {
         return Next::Impossible;
     }
-    Next::Make(steps::redo_action(s, pool, pool, b + 16, n, k), 2 * n + 5)
+    Next::Make(actions::redo_action(s, pool, pool, b + 16, n, k), 2 * n + 5)
 }
 
 // Whether step k stores data or parity, or is the barrier after either, and the log at `b` is no longer valid with the count `n`.

@@ -6,7 +6,7 @@ ghost use lib.Count.{ones, trailingZeros};
 ghost use lib.ListN.{length};
 ghost use Rattle.rules.specs.Shape.{poolSize};
 ghost use Rattle.rules.specs.Repair.{anyAbove, anyTwo, repaired};
-ghost use Rattle.layout.specs.Reading.{InRange, shapeOf};
+ghost use Rattle.layout.specs.Meaning.{InRange, shapeOf};
 ghost use Rattle.repair.specs.Column.{columnRebuilt};
 use layout::Shape;
 

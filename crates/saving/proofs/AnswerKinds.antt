@@ -5,7 +5,7 @@ use mathlib.Core.Bool.{cond}
 use borrow.Author.Tests.{ne-eqb}
 use lib.Dec.{eqb}
 use Rattle.rules.specs.Answer.{Answer, address, done, isRefused, passed, refused, started, stored, taken}
-use Rattle.answers.specs.Reading.{kindOf, valueOf}
+use Rattle.answers.specs.Meaning.{kindOf, valueOf}
 use Rattle.saving.specs.Saving.{isDone}
 use Rattle.saving.specs.TakenBack.{addressIn}
 

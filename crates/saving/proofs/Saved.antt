@@ -19,11 +19,11 @@ use Rattle.rules.proofs.Test.{first-passed, passed-left, passed-right}
 use Rattle.rules.proofs.Transaction.{call-refused}
 use Rattle.powercut.specs.WholeRun.{made}
 use Rattle.powercut.specs.Claim.{new}
-use Rattle.answers.specs.Reading.{answerOf}
+use Rattle.answers.specs.Meaning.{answerOf}
 use Rattle.transaction.specs.declared.Transaction as Code
 use Rattle.transaction.specs.declared.Reply.{Reply}
-use Rattle.transaction.specs.Reading.{afterOf, givenOf, transactionOf}
-use Rattle.saving.specs.Reading.{outcomeOf}
+use Rattle.transaction.specs.Meaning.{afterOf, givenOf, transactionOf}
+use Rattle.saving.specs.Meaning.{outcomeOf}
 use Rattle.saving.specs.Saving.{Outcome, Saves, Told, committedFor, isDone, saveOn, saved, savedAs}
 use Rattle.saving.proofs.Uncut.{Ended, commit-ends, concluded, refused-is}
 use Rattle.powercut.proofs.RunMatches.{accepted-none}

@@ -1,4 +1,4 @@
 pub mod Saving
-pub mod Reading
+pub mod Meaning
 pub mod TakenBack
 pub mod Recovering

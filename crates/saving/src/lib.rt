@@ -2,11 +2,11 @@
 // saved, one allocated and freed again, and a recovery driven to its end. No function has a `requires`.
 ghost use mathlib.Core.Path.{_≡_};
 ghost use Rattle.rules.specs.Answer.{isRefused};
-ghost use Rattle.answers.specs.Reading.{answerOf};
-ghost use Rattle.transaction.specs.Reading.{afterOf, givenOf};
-ghost use Rattle.recovery.specs.Reading.{afterOf as recoveredOf};
+ghost use Rattle.answers.specs.Meaning.{answerOf};
+ghost use Rattle.transaction.specs.Meaning.{afterOf, givenOf};
+ghost use Rattle.recovery.specs.Meaning.{afterOf as recoveredOf};
 ghost use Rattle.saving.specs.Saving.{committedFor, isDone, isEnd, Saves, stepsFrom};
-ghost use Rattle.saving.specs.Reading.{outcomeOf};
+ghost use Rattle.saving.specs.Meaning.{outcomeOf};
 ghost use Rattle.saving.specs.TakenBack.{addressIn, TakesBack};
 ghost use Rattle.saving.specs.Recovering.{Recovers};
 use answers::Answer;

@@ -8,7 +8,7 @@ use Rattle.rules.specs.Words.{ascii}
 use Rattle.rules.specs.Shape.{Shape}
 use Rattle.rules.specs.Runs.{free, object}
 use Rattle.rules.specs.Scan.{brokenLine, columnsLine, poolLine, runLine, runText}
-use Rattle.print.specs.Put.{betweenText, pairText}
+use Rattle.texts.specs.Put.{betweenText, pairText}
 use Rattle.scan.specs.Lined.{objectLine}
 
 pub free-line : (z c n : ℕ) → pairText (ascii "(run ") z c ++ betweenText (ascii " (free ") n (ascii "))\n") ≡ runLine z c (free n)

@@ -20,8 +20,8 @@ use Rattle.objects.specs.Named.{objectRun}
 use Rattle.objects.proofs.Naming.{passed-object}
 use Rattle.scrub.specs.Counted.{ObjectThere}
 use Rattle.scrub.proofs.Counting.{body-room}
-use Rattle.print.specs.Put.{Put}
-use Rattle.print.proofs.Put.{put-as, put-then}
+use Rattle.texts.specs.Put.{Put}
+use Rattle.texts.proofs.Put.{put-as, put-then}
 use Rattle.scan.specs.Lined.{Lined, objectLine, zoneText}
 use Rattle.scan.proofs.Lines.{object-line}
 

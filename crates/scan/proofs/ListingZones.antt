@@ -12,13 +12,13 @@ use Rattle.rules.proofs.Numbers.{less}
 use Rattle.rules.proofs.Shape.{zone-end}
 use Rattle.rules.proofs.Format.{zone-size}
 use Rattle.layout.specs.declared.Shape.{Shape}
-use Rattle.layout.specs.Reading.{Shaped, shapeOf}
+use Rattle.layout.specs.Meaning.{Shaped, shapeOf}
 use Rattle.layout.proofs.Range.{shape-good}
 use Rattle.zones.specs.Found.{ZoneIs}
 use Rattle.zones.proofs.Searching.{walk-in}
 use Rattle.zones.proofs.Shaped.{address-bound}
-use Rattle.print.specs.Put.{Put}
-use Rattle.print.proofs.Put.{Putting, put-as, putting-end, putting-start, putting-step}
+use Rattle.texts.specs.Put.{Put}
+use Rattle.texts.proofs.Put.{Putting, put-as, putting-end, putting-start, putting-step}
 use Rattle.scan.specs.Lined.{zoneText}
 
 pub record ListingZones (s : PoolShape) (v l : List ℕ) (a : ℕ) (l′ : List ℕ) (r z : ℕ) : Type 0 where

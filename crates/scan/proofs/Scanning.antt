@@ -17,12 +17,12 @@ use Rattle.rules.specs.Scan.{concludeScan, poolText, poolscan, scanTests, zones
 use Rattle.rules.proofs.Bool.{split}
 use Rattle.layout.specs.declared.Shape.{Shape}
 use Rattle.layout.specs.declared.Opened.the-variants as Opening
-use Rattle.layout.specs.Reading.{InRange, Shaped, answer, shapeOf}
+use Rattle.layout.specs.Meaning.{InRange, Shaped, answer, shapeOf}
 use Rattle.layout.proofs.Range.{bounds}
 use Rattle.layout.proofs.Opening.{answer-refused, open-good}
-use Rattle.opening.proofs.Reading.{read-none, read-opened}
-use Rattle.print.specs.Put.{Put, betweenText, pairText}
-use Rattle.print.proofs.Put.{put-as, put-then}
+use Rattle.log.proofs.Opening.{read-none, read-opened}
+use Rattle.texts.specs.Put.{Put, betweenText, pairText}
+use Rattle.texts.proofs.Put.{put-as, put-then}
 use Rattle.scan.proofs.Lines.{columns-line, pool-line}
 
 -- ---- the ways out

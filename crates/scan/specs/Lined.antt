@@ -6,7 +6,7 @@ use mathlib.Core.List.{List, [], _++_}
 use Rattle.rules.specs.Words.{ascii}
 use Rattle.rules.specs.Scan.{brokenLine, quality, runLine, zoneLines}
 use Rattle.runs.specs.Rest.{Passed, restOf, walkOf, walkOn}
-use Rattle.print.specs.Put.{Put, pairText}
+use Rattle.texts.specs.Put.{Put, pairText}
 
 -- Room for a line that begins at place a, and numbers to print in it.
 pub record Room (a z c : ℕ) : Type 0 where

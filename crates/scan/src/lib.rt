@@ -7,11 +7,11 @@ ghost use lib.Seq.{sets};
 ghost use Rattle.rules.specs.Runs.{free};
 ghost use Rattle.rules.specs.Scan.{brokenLine, poolscan, poolText, runLine, zonesText};
 ghost use Rattle.stage.specs.View.{part, Staged};
-ghost use Rattle.layout.specs.Reading.{Shaped, shapeOf};
+ghost use Rattle.layout.specs.Meaning.{Shaped, shapeOf};
 ghost use Rattle.runs.specs.Rest.{Zoned};
 ghost use Rattle.objects.specs.Named.{objectRun};
 ghost use Rattle.scrub.specs.Counted.{ObjectThere};
-ghost use Rattle.print.specs.Put.{Put};
+ghost use Rattle.texts.specs.Put.{Put};
 ghost use Rattle.scan.specs.Lined.{Lined, objectLine, Room, zoneText};
 use layout::Opened;
 use layout::Shape;
@@ -29,8 +29,8 @@ fn put_free(out: &mut [u8], at: usize, z: usize, c: usize, n: usize) -> usize
     requires { ⌜ Room at z c × (n < 65536) ⌝ }
     ensures { λ r. ⌜ Put 64 (now (out .entry)) at (runLine z c (free n)) (now (out .exit)) r ⌝ }
 {
-    let run = print::put_pair(out, at, b"(run ", z, c);
-    print::put_between(out, run, b" (free ", n, b"))\n")
+    let run = texts::put_pair(out, at, b"(run ", z, c);
+    texts::put_between(out, run, b" (free ", n, b"))\n")
 }
 
 // The line of an object with a body of `m` bytes.
@@ -46,12 +46,12 @@ fn put_object(
     requires { ⌜ Room at z c × (m < 4294967296) ⌝ }
     ensures { λ r. ⌜ Put 64 (now (out .entry)) at (objectLine z c tag m good) (now (out .exit)) r ⌝ }
 {
-    let run = print::put_pair(out, at, b"(run ", z, c);
-    let object = print::put_pair(out, run, b" (object ", tag as usize, m);
+    let run = texts::put_pair(out, at, b"(run ", z, c);
+    let object = texts::put_pair(out, run, b" (object ", tag as usize, m);
     if good {
-        return print::put_bytes(out, object, b" good))\n");
+        return texts::put_bytes(out, object, b" good))\n");
     }
-    print::put_bytes(out, object, b" bad))\n")
+    texts::put_bytes(out, object, b" bad))\n")
 }
 
 // The line of zone `z`, broken from cell `c` on.
@@ -59,8 +59,8 @@ fn put_broken(out: &mut [u8], at: usize, z: usize, c: usize) -> usize
     requires { ⌜ Room at z c ⌝ }
     ensures { λ r. ⌜ Put 64 (now (out .entry)) at (brokenLine z c) (now (out .exit)) r ⌝ }
 {
-    let end = print::put_pair(out, at, b"(broken ", z, c);
-    print::put_bytes(out, end, b")\n")
+    let end = texts::put_pair(out, at, b"(broken ", z, c);
+    texts::put_bytes(out, end, b")\n")
 }
 
 // The line of the object with its head at `place`.
@@ -158,10 +158,10 @@ fn put_pool(pool: &[u8], out: &mut [u8], s: Shape) -> usize
     requires { ⌜ (length (now pool) ≤ 65536) × Shaped (now pool) (shapeOf s) ⌝ }
     ensures { λ r. ⌜ Put 65536 (now (out .entry)) 0 (poolText (shapeOf s) (now (pool .entry))) (now (out .exit)) r ⌝ }
 {
-    let zones = print::put_pair(out, 0, b"(pool ", s.rows, s.cols);
-    let runs = print::put_between(out, zones, b" ", s.zones, b")\n");
+    let zones = texts::put_pair(out, 0, b"(pool ", s.rows, s.cols);
+    let runs = texts::put_between(out, zones, b" ", s.zones, b")\n");
     let columns = put_zones(pool, out, runs, s);
-    print::put_between(
+    texts::put_between(
         out,
         columns,
         b"(columns (off ",
@@ -176,10 +176,10 @@ pub fn text(pool: &[u8], out: &mut [u8]) -> usize
     ensures most { λ r. ⌜ r ≤ 65536 ⌝ }
 {
     if 65536 < pool.len() {
-        return print::put_between(out, 0, b"(refused ", 2, b")\n");
+        return texts::put_between(out, 0, b"(refused ", 2, b")\n");
     }
-    match opening::quiet(pool) {
-        Opened::Refused(n) => print::put_between(out, 0, b"(refused ", n as usize, b")\n"),
+    match log::quiet(pool) {
+        Opened::Refused(n) => texts::put_between(out, 0, b"(refused ", n as usize, b")\n"),
         Opened::Good(s) => put_pool(pool, out, s),
     }
 }

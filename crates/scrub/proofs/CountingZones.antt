@@ -13,7 +13,7 @@ use Rattle.rules.specs.Scrub.{brokenZones, countRuns, countTo, damagedMet, obje
 use Rattle.rules.proofs.Numbers.{less}
 use Rattle.rules.proofs.Scrub.{count-append}
 use Rattle.layout.specs.declared.Shape.{Shape}
-use Rattle.layout.specs.Reading.{InRange, shapeOf}
+use Rattle.layout.specs.Meaning.{InRange, shapeOf}
 use Rattle.layout.proofs.Range.{shape-good}
 use Rattle.runs.specs.Rest.{walkOf}
 use Rattle.zones.specs.Found.{ZoneIs}

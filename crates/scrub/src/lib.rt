@@ -5,7 +5,7 @@ ghost use Prim.Native.Nat.{_%_, _≤_};
 ghost use mathlib.Core.List.{[]};
 ghost use Rattle.stage.specs.View.{Staged};
 ghost use Rattle.runs.specs.Rest.{Zoned};
-ghost use Rattle.layout.specs.Reading.{shapeOf, Shaped};
+ghost use Rattle.layout.specs.Meaning.{shapeOf, Shaped};
 ghost use Rattle.scrub.specs.Counted.{damagedAt, Counted, ObjectThere, Tallied};
 use layout::Shape;
 use runs::Zone;

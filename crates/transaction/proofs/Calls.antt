@@ -18,19 +18,19 @@ use Rattle.powercut.specs.Commit.{commitStart, commitStep, commitTests, startAn
 use Rattle.layout.specs.declared.Shape.{Shape}
 use Rattle.layout.specs.declared.Opened.{Opened}
 use Rattle.layout.specs.declared.Opened.the-variants as Opening
-use Rattle.layout.specs.Reading.{answer, shapeFrom, shapeOf}
+use Rattle.layout.specs.Meaning.{answer, shapeFrom, shapeOf}
 use Rattle.layout.proofs.Opening.{answer-good, answer-refused}
 use Rattle.stage.specs.View.{entriesOf, seen}
 use Rattle.answers.specs.declared.Staged.{Staged}
 use Rattle.answers.specs.Planned.{Judged, Left, concludeStaged, leftOf, manyTest, planned}
 use Rattle.record.specs.declared.Record.{Record}
-use Rattle.record.specs.Reading.{given}
+use Rattle.record.specs.Meaning.{given}
 use Rattle.record.proofs.Judging.{live-only, record-judged, record-shape}
 use Rattle.commit.specs.declared.Stepped.{Stepped}
 use Rattle.commit.specs.Stepped as Commit
 use Rattle.commit.specs.Stepped.{startedWith}
 use Rattle.transaction.specs.declared.Reply.{Reply}
-use Rattle.transaction.specs.Reading.{afterOf, refusedBack, stagedBack, steppedBack}
+use Rattle.transaction.specs.Meaning.{afterOf, refusedBack, stagedBack, steppedBack}
 
 -- A call that leaves y meets the tests ts first, then us; it leaves x where all pass.
 pub record Meets (g : Given) (ts us : List Test) (x y : After) : Type 0 where

@@ -6,7 +6,7 @@ ghost use Rattle.rules.specs.Staging.{fresh};
 ghost use Rattle.rules.specs.Plan.{allocate as Allocate, release, write as Write};
 ghost use Rattle.rules.specs.Calls.{call};
 ghost use Rattle.powercut.specs.Commit.{commitStart, commitStep};
-ghost use Rattle.transaction.specs.Reading.{afterOf, givenOf, refusedBack, stagedBack, steppedBack, transactionOf};
+ghost use Rattle.transaction.specs.Meaning.{afterOf, givenOf, refusedBack, stagedBack, steppedBack, transactionOf};
 use answers::Answer;
 use answers::Staged;
 use commit::Stepped;

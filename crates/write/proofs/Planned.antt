@@ -19,7 +19,7 @@ use Rattle.rules.proofs.Bool.{and-split, split}
 use Rattle.rules.proofs.Test.{first-left, first-passed, first-right}
 use Rattle.rules.proofs.Shape.{zone-even}
 use Rattle.layout.specs.declared.Shape.{Shape as CodeShape}
-use Rattle.layout.specs.Reading.{InRange, shapeOf}
+use Rattle.layout.specs.Meaning.{InRange, shapeOf}
 use Rattle.layout.proofs.Range.{shape-good}
 use Rattle.stage.specs.View.{entriesOf, part, seen}
 use Rattle.stage.proofs.Entries.{length-entries}

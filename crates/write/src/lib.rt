@@ -11,7 +11,7 @@ ghost use Rattle.rules.specs.Shape.{entryLimit, stagingSize};
 ghost use Rattle.rules.specs.Runs.{checkWord};
 ghost use Rattle.rules.specs.Answer.{taken};
 ghost use Rattle.rules.specs.Plan.{touchWrite, write as writeCall};
-ghost use Rattle.layout.specs.Reading.{shapeOf};
+ghost use Rattle.layout.specs.Meaning.{shapeOf};
 ghost use Rattle.stage.specs.View.{entriesOf, part, seen, Staged as StagedIn};
 ghost use Rattle.answers.specs.Planned.{leftOf, planned, stageEntries, Judged};
 ghost use Rattle.write.specs.Writing.{addedBy, Range, WriteRoom, Written};

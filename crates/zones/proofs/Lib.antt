@@ -1,3 +1,4 @@
 pub mod Shaped
 pub mod Searching
 pub mod NamedAt
+pub mod BodyAt

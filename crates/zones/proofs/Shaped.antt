@@ -7,7 +7,7 @@ use native.Mathlib.Omega.{arith}
 use lib.ListN.{length}
 use Rattle.rules.specs.Shape.{poolSize, zoneAt, zoneCells, zoneSize}
 use Rattle.rules.proofs.Shape.{size-even, zone-cells, zone-end, zone-even}
-use Rattle.layout.specs.Reading.{InRange, Shaped, shapeOf}
+use Rattle.layout.specs.Meaning.{InRange, Shaped, shapeOf}
 use Rattle.layout.specs.declared.Shape.{Shape}
 use Rattle.layout.proofs.Range.{bounds, shape-good}
 use Rattle.stage.specs.View.{Staged, entriesOf}

@@ -1,4 +1,4 @@
-// The pool's zones (01, "Cells and runs"): the search for free cells, and the object at a cell address, as staged.
+// The pool's zones (01, "Cells and runs"): the search for free cells, the object at a cell address, as staged; and where its body lies.
 ghost use mathlib.Core.Path.{_≡_};
 ghost use mathlib.Core.Bool.{_&&_};
 ghost use Prim.Native.Nat.{_*_, _<_};
@@ -7,7 +7,8 @@ ghost use Rattle.rules.specs.Shape.{zoneCells};
 ghost use Rattle.rules.specs.Zones.{headAt};
 ghost use Rattle.rules.specs.Plan.{search as searchFrom};
 ghost use Rattle.stage.specs.View.{seen, Staged};
-ghost use Rattle.layout.specs.Reading.{shapeOf, InRange, Shaped};
+ghost use Rattle.layout.specs.Meaning.{shapeOf, InRange, Shaped};
+ghost use Rattle.zones.specs.Body.{Within, lookIn, lookOf};
 ghost use Rattle.zones.specs.Found.{foundOf, NamesAt, SpotAt, ZoneIs};
 use layout::Shape;
 use objects::Named;
@@ -17,6 +18,12 @@ use runs::Zone;
 // A free run that fits: its zone, first cell and cells; or a refusal's number.
 pub enum Found {
     At(usize, usize, usize),
+    Refused(u8),
+}
+
+// A body: its place and length; or a refusal's number.
+pub enum Body {
+    At(usize, usize),
     Refused(u8),
 }
 
@@ -130,4 +137,15 @@ pub fn head_at(s: Shape, a: usize) -> usize
 {
     let cells = s.cells();
     s.zone_at(a / cells) + 64 * (a % cells)
+}
+
+// The body of the object at the cell address `a`, or the first refusal of 5, 23, 24, 25.
+pub fn body_at(pool: &[u8], s: Shape, a: usize) -> Body
+    requires { ⌜ Shaped (now pool) (shapeOf s) ⌝ }
+    ensures { λ r. ⌜ (lookOf r ≡ lookIn (shapeOf s) (now (pool .entry)) a) × Within (now (pool .entry)) r ⌝ }
+{
+    match object_at(pool, &pool[0..0], 0, s, a) {
+        Named::Refused(n) => Body::Refused(n),
+        Named::Object(_, m, _) => Body::At(head_at(s, a) + 16, m),
+    }
 }

@@ -1,5 +1,5 @@
 -- `commit::make` meets its contract. Assumes nothing.
-use Rattle.layout.specs.Reading.{shapeOf}
+use Rattle.layout.specs.Meaning.{shapeOf}
 use Rattle.commit.proofs.Committing.{entry-there, made, steps-few}
 use borrow.Author.Needs.{needs}
 use Rattle.commit.proofs.make.Statement.{statement}

@@ -1,5 +1,5 @@
 -- `commit::sealed` meets its contract. Assumes nothing.
-use Rattle.layout.specs.Reading.{shapeOf}
+use Rattle.layout.specs.Meaning.{shapeOf}
 use Rattle.commit.proofs.Committing.{sealed-first, sealed-later}
 use borrow.Author.Needs.{needs}
 use Rattle.commit.proofs.sealed.Statement.{statement}

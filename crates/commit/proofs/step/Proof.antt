@@ -1,6 +1,6 @@
 -- `commit::step` meets its contract. Assumes nothing.
 use mathlib.Core.Path.{ap}
-use Rattle.record.specs.Reading.{phaseOf}
+use Rattle.record.specs.Meaning.{phaseOf}
 use Rattle.record.proofs.Judging.{record-shaped}
 use Rattle.commit.proofs.Committing.{step-closed, step-made, step-open, step-ready, step-sealed, step-within}
 use borrow.Author.Needs.{needs}

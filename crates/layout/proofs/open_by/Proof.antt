@@ -1,7 +1,7 @@
 -- `layout::open_by` meets its contract. Assumes nothing.
 use mathlib.Core.Path.{_≡_}
 use Rattle.rules.specs.Header.{headerShape}
-use Rattle.layout.specs.Reading.{InRange, shapeOf}
+use Rattle.layout.specs.Meaning.{InRange, shapeOf}
 use Rattle.layout.proofs.Range.{header-made, header-out}
 use Rattle.layout.proofs.Opening.{opened-by-refused, opened-by-good}
 use borrow.Author.Needs.{needs}

@@ -1,6 +1,6 @@
 -- `log::targets_fit` meets its contract. The invariant: the entries from `i` on fit, none repeats, and their marks are set. Assumes nothing.
 use mathlib.Core.Path.{refl}
-use Rattle.layout.specs.Reading.{shapeOf}
+use Rattle.layout.specs.Meaning.{shapeOf}
 use Rattle.log.proofs.Targets.{Passed, passed-bad, passed-end, passed-mark, passed-on, passed-start, passed-twice}
 use borrow.Author.Needs.{needs}
 use native.Mathlib.Omega.{arith}

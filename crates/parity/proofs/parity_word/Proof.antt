@@ -1,7 +1,7 @@
 -- `parity::parity_word` meets its contract. Assumes nothing.
 use borrow.Author.Needs.{needs}
 use Rattle.layout.proofs.Range.{shape-good}
-use Rattle.layout.specs.Reading.{shapeOf}
+use Rattle.layout.specs.Meaning.{shapeOf}
 use Rattle.parity.proofs.Places.{target-fits, target-parity}
 use Rattle.parity.proofs.parity_word.Statement.{statement}
 use Rattle.parity.proofs.parity_word.Tie as tie

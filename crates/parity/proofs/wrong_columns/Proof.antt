@@ -7,7 +7,7 @@ use native.Mathlib.Omega.{arith}
 use borrow.Author.Needs.{needs}
 use Rattle.rules.specs.Shape.{Shape}
 use Rattle.rules.specs.Scrub.{columnRight, countTo, sumTo, wrongColumns}
-use Rattle.layout.specs.Reading.{shapeOf}
+use Rattle.layout.specs.Meaning.{shapeOf}
 use Rattle.layout.proofs.Range.{bounds}
 use Rattle.parity.proofs.Places.{sum-more}
 use Rattle.parity.proofs.wrong_columns.Statement.{statement}

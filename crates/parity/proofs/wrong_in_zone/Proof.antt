@@ -7,7 +7,7 @@ use native.Mathlib.Omega.{arith}
 use borrow.Author.Needs.{needs}
 use Rattle.layout.proofs.Range.{bounds, page-most, shape-good}
 use Rattle.rules.specs.Scrub.{columnRight, countTo}
-use Rattle.layout.specs.Reading.{shapeOf}
+use Rattle.layout.specs.Meaning.{shapeOf}
 use Rattle.parity.proofs.Places.{count-none, count-one, column-fits, column-judged}
 use Rattle.parity.proofs.wrong_in_zone.Statement.{statement}
 use Rattle.parity.proofs.wrong_in_zone.Tie as tie

@@ -1,5 +1,5 @@
 -- `pool::fill` meets its contract. Assumes nothing.
-use Rattle.layout.specs.Reading.{shapeOf}
+use Rattle.layout.specs.Meaning.{shapeOf}
 use Rattle.layout.proofs.Range.{shape-good}
 use Rattle.pool.proofs.Formatting.{header-fits}
 use Rattle.pool.proofs.Fresh.{fresh-stored}

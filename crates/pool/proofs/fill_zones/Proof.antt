@@ -3,7 +3,7 @@ use Prim.Native.Nat.{_+_, _-_, _*_, _≤_}
 use lib.ListN.{length}
 use native.Mathlib.Omega.{arith}
 use borrow.Author.Needs.{needs}
-use Rattle.layout.specs.Reading.{shapeOf}
+use Rattle.layout.specs.Meaning.{shapeOf}
 use Rattle.layout.proofs.Range.{shape-good}
 use Rattle.pool.proofs.Fresh.{Filling, filling-end, filling-start, filling-step, zone-room}
 use Rattle.pool.proofs.fill_zones.Statement.{statement}

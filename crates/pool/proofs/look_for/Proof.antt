@@ -1,8 +1,8 @@
 -- `pool::look_for` meets its contract. Assumes nothing.
 use mathlib.Core.Path.{sym, _∙_}
-use Rattle.reading.specs.Reading.{lookOf}
+use Rattle.zones.specs.Body.{lookOf}
 use Rattle.pool.proofs.Looking.{look-found, look-refused}
-use Rattle.opening.proofs.Reading.{read-shaped}
+use Rattle.log.proofs.Opening.{read-shaped}
 use borrow.Author.Needs.{needs}
 use Rattle.pool.proofs.look_for.Statement.{statement}
 use Rattle.pool.proofs.look_for.Tie as tie

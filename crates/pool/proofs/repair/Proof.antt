@@ -4,8 +4,8 @@ use Rattle.rules.specs.Test.{first}
 use Rattle.rules.specs.Header.{shapeIn}
 use Rattle.rules.specs.Seals.{readTests}
 use Rattle.layout.specs.declared.Opened.the-variants.{Good}
-use Rattle.layout.specs.Reading.{answer}
-use Rattle.opening.proofs.Reading.{read-shaped}
+use Rattle.layout.specs.Meaning.{answer}
+use Rattle.log.proofs.Opening.{read-shaped}
 use Rattle.pool.proofs.Repairing.{Tested, columns-small, repair-above, repair-taken, repair-length, repair-refused, repair-two}
 use native.Mathlib.Omega.{arith}
 use borrow.Author.Needs.{needs}

@@ -1,6 +1,6 @@
 -- `pool::scrub` meets its contract. Assumes nothing.
 use mathlib.Core.Path.{sym, _∙_}
-use Rattle.opening.proofs.Reading.{read-shaped}
+use Rattle.log.proofs.Opening.{read-shaped}
 use Rattle.pool.proofs.Scrubbing.{scrub-counted, scrub-refused}
 use borrow.Author.Needs.{needs}
 use Rattle.pool.proofs.scrub.Statement.{statement}

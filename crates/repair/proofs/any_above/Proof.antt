@@ -6,7 +6,7 @@ use borrow.Author.Tests.{le-leb, lt-leb}
 use borrow.Author.Needs.{needs}
 use lib.Dec.{leb}
 use lib.ListN.{length, drop}
-use Rattle.layout.specs.Reading.{shapeOf}
+use Rattle.layout.specs.Meaning.{shapeOf}
 use Rattle.layout.proofs.Range.{bounds}
 use Rattle.repair.proofs.Masks.{any-end, mask-end, above-any, any-hit, any-pass, anyOf}
 use Rattle.repair.proofs.any_above.Statement.{statement}

@@ -3,7 +3,7 @@ use lib.Count.{trailingZeros}
 use Prim.Native.Nat.{suc, _/_, _%_, _<_}
 use native.Mathlib.Omega.{arith}
 use borrow.Author.Needs.{needs}
-use Rattle.layout.specs.Reading.{shapeOf}
+use Rattle.layout.specs.Meaning.{shapeOf}
 use Rattle.layout.proofs.Range.{Bounds, bounds, page-most, shape-good}
 use Rattle.parity.proofs.Places.{column-fits}
 use Rattle.repair.proofs.Masks.{lost-row}

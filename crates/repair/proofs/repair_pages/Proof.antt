@@ -7,7 +7,7 @@ use borrow.Author.Needs.{needs}
 use lib.ListN.{length, take}
 use lib.Seq.{take-length}
 use Rattle.rules.specs.Repair.{repaired}
-use Rattle.layout.specs.Reading.{shapeOf}
+use Rattle.layout.specs.Meaning.{shapeOf}
 use Rattle.layout.proofs.Range.{bounds, shape-good}
 use Rattle.repair.proofs.Repaired.{repaired-zero, repaired-lost, mask-one, mask-small, repaired-none}
 use Rattle.repair.proofs.repair_pages.Statement.{statement}

@@ -3,7 +3,7 @@ use borrow.Author.Needs.{needs}
 use mathlib.Core.Path.{_≡_, _∙_}
 use lib.ListN.{length}
 use native.Mathlib.Omega.{arith}
-use Rattle.recovery.specs.Reading.{afterOf}
+use Rattle.recovery.specs.Meaning.{afterOf}
 use Rattle.saving.specs.Recovering.{recoveredFor, recoveryFrom}
 use Rattle.saving.proofs.Recovering.{recover-begun, recover-end, recover-last, recover-on}
 use Rattle.saving.proofs.recover.Statement.{statement}

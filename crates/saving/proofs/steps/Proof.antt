@@ -2,7 +2,7 @@
 use borrow.Author.Needs.{needs}
 use mathlib.Core.Path.{_≡_, sym, _∙_}
 use lib.ListN.{length}
-use Rattle.transaction.specs.Reading.{afterOf}
+use Rattle.transaction.specs.Meaning.{afterOf}
 use Rattle.saving.specs.Saving.{stepsFrom}
 use Rattle.saving.proofs.Saving.{steps-end, steps-none, steps-on}
 use native.Mathlib.Omega.{arith}

@@ -1,5 +1,5 @@
 -- `scan::put_judged` meets its contract. Assumes nothing.
-use Rattle.print.proofs.Put.{put-as}
+use Rattle.texts.proofs.Put.{put-as}
 use native.Mathlib.Nat.{le-refl}
 use Rattle.scrub.proofs.Counting.{body-room, object-room}
 use Rattle.scan.proofs.Listing.{judged-line}

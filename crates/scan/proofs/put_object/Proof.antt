@@ -1,5 +1,5 @@
 -- `scan::put_object` meets its contract. Assumes nothing.
-use Rattle.print.proofs.Put.{put-as, put-then}
+use Rattle.texts.proofs.Put.{put-as, put-then}
 use Rattle.rules.specs.Scan.{quality}
 use Rattle.scan.specs.Lined.{objectLine}
 use native.Mathlib.Omega.{arith}

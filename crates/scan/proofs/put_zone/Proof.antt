@@ -1,6 +1,6 @@
 -- `scan::put_zone` meets its contract. Assumes nothing.
 use Prim.Native.Nat.{_-_}
-use Rattle.print.proofs.Put.{put-length}
+use Rattle.texts.proofs.Put.{put-length}
 use Rattle.scan.proofs.Listing.{Listing, listing-broken, listing-end, listing-start, listing-step}
 use borrow.Author.Needs.{needs}
 use native.Mathlib.Omega.{arith}

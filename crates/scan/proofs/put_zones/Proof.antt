@@ -1,6 +1,6 @@
 -- `scan::put_zones` meets its contract. Assumes nothing.
 use Prim.Native.Nat.{_-_}
-use Rattle.layout.specs.Reading.{shapeOf}
+use Rattle.layout.specs.Meaning.{shapeOf}
 use Rattle.zones.proofs.Shaped.{staged-none, zone-inside}
 use Rattle.layout.proofs.Range.{bounds}
 use Rattle.scan.proofs.ListingZones.{ListingZones, place-small, zone-few, zones-put, zones-start, zones-step}

@@ -1,6 +1,6 @@
 -- `scan::text` meets its contract. Assumes nothing.
 use mathlib.Core.Path.{sym, _∙_}
-use Rattle.opening.proofs.Reading.{read-shaped}
+use Rattle.log.proofs.Opening.{read-shaped}
 use Rattle.scan.proofs.Scanning.{refusedText, scan-good, scan-long, scan-put, scan-refused}
 use native.Mathlib.Omega.{arith}
 use borrow.Author.Needs.{needs}

@@ -1,7 +1,7 @@
 -- `scrub::count_pool` meets its contract. Assumes nothing.
 use Prim.Native.Nat.{_-_}
 use Rattle.layout.proofs.Range.{bounds}
-use Rattle.layout.specs.Reading.{shapeOf}
+use Rattle.layout.specs.Meaning.{shapeOf}
 use Rattle.zones.proofs.Shaped.{staged-none, zone-inside}
 use Rattle.scrub.proofs.CountingZones.{CountingZones, cells-small, zones-end, zones-start, zones-step}
 use borrow.Author.Needs.{needs}

@@ -1,6 +1,6 @@
 -- `write::write` meets its contract. Assumes nothing.
 use native.Mathlib.Omega.{arith}
-use Rattle.layout.specs.Reading.{shapeOf}
+use Rattle.layout.specs.Meaning.{shapeOf}
 use Rattle.layout.proofs.Range.{size-bounds}
 use Rattle.zones.proofs.Shaped.{cells-some}
 use Rattle.zones.proofs.NamedAt.{named-below}

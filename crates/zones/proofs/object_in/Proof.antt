@@ -1,5 +1,5 @@
 -- `zones::object_in` meets its contract. Assumes nothing.
-use Rattle.layout.specs.Reading.{shapeOf}
+use Rattle.layout.specs.Meaning.{shapeOf}
 use Rattle.stage.specs.View.{seen}
 use borrow.Author.Tests.{not-false, not-true}
 use Rattle.zones.proofs.Shaped.{address-bound, address-cell, address-zone, cells-some, zone-inside}

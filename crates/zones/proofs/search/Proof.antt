@@ -1,6 +1,6 @@
 -- `zones::search` meets its contract. Assumes nothing.
 use Rattle.rules.specs.Plan.{fitted, search as searchFrom}
-use Rattle.layout.specs.Reading.{shapeOf}
+use Rattle.layout.specs.Meaning.{shapeOf}
 use Rattle.stage.specs.View.{seen}
 use Rattle.stage.specs.Clear.{Clear}
 use Rattle.stage.proofs.Clear.{clear-empty, clear-later}

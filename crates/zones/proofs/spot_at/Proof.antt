@@ -1,5 +1,5 @@
 -- `zones::spot_at` meets its contract. Assumes nothing.
-use Rattle.layout.specs.Reading.{shapeOf}
+use Rattle.layout.specs.Meaning.{shapeOf}
 use Rattle.stage.specs.View.{seen}
 use Rattle.zones.proofs.Shaped.{address-bound, address-cell, address-zone, cells-some, zone-inside}
 use Rattle.zones.proofs.NamedAt.{spot-in, spot-past}

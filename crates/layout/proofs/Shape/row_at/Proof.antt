@@ -1,5 +1,5 @@
 -- `layout::Shape::row_at` meets its contract. Assumes nothing.
-use Rattle.layout.specs.Reading.{shapeOf}
+use Rattle.layout.specs.Meaning.{shapeOf}
 use borrow.Author.Needs.{needs}
 use native.Mathlib.Omega.{arith}
 use Rattle.layout.proofs.Range.{bounds, place-in, place-row, shape-good}

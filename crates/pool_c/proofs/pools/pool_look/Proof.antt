@@ -1,8 +1,8 @@
 -- `pool_c::pools::pool_look` meets its contract. Assumes nothing.
 use mathlib.Core.Path.{sym, ap, _∙_}
-use Rattle.reading.specs.Reading.{lookOf}
-use Rattle.reading.specs.declared.Body.{Body}
-use Rattle.pool_c.specs.Reading.{partOut}
+use Rattle.zones.specs.Body.{lookOf}
+use Rattle.zones.specs.declared.Body.{Body}
+use Rattle.pool_c.specs.Meaning.{partOut}
 use borrow.Author.Needs.{needs}
 use Rattle.pool_c.proofs.pools.pool_look.Statement.{statement}
 use Rattle.pool_c.proofs.pools.pool_look.Tie as tie

@@ -1,8 +1,8 @@
 -- `pool_c::pools::pool_scrub` meets its contract. Assumes nothing.
 use mathlib.Core.Path.{sym, ap, _∙_}
-use Rattle.pool.specs.Reading.{scrubOf}
+use Rattle.pool.specs.Meaning.{scrubOf}
 use Rattle.pool.specs.declared.Scrubbed.{Scrubbed}
-use Rattle.pool_c.specs.Reading.{countsOut}
+use Rattle.pool_c.specs.Meaning.{countsOut}
 use borrow.Author.Needs.{needs}
 use Rattle.pool_c.proofs.pools.pool_scrub.Statement.{statement}
 use Rattle.pool_c.proofs.pools.pool_scrub.Tie as tie

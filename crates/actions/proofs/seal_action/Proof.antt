@@ -1,0 +1,23 @@
+-- `actions::seal_action` meets its contract. Assumes nothing.
+use Rattle.actions.proofs.Actions.{seal-barrier, seal-first, seal-second}
+use borrow.Author.Needs.{needs}
+use Rattle.actions.proofs.seal_action.Statement.{statement}
+use Rattle.actions.proofs.seal_action.Tie as tie
+
+log-a-requires : tie.Need-log-a-requires
+log-a-requires c κs = search needs
+
+log-b-requires : tie.Need-log-b-requires
+log-b-requires c κs = search needs
+
+returns : tie.Need-returns
+returns c = search (needs, seal-first)
+
+returns-2 : tie.Need-returns-2
+returns-2 c = search (needs, seal-second)
+
+returns-3 : tie.Need-returns-3
+returns-3 c = search (needs, seal-barrier)
+
+pub seal-action-spec : {M : Type 1} → statement M
+seal-action-spec = tie.close (tie.spec log-a-requires log-b-requires returns returns-2 returns-3)

@@ -4,26 +4,8 @@ use borrow.Author.Needs.{needs}
 use Rattle.actions.proofs.commit_action.Statement.{statement}
 use Rattle.actions.proofs.commit_action.Tie as tie
 
-mul-if1 : tie.Need-mul-if1
-mul-if1 c = search needs
-
-log-action-requires : tie.Need-log-action-requires
-log-action-requires c κs = search needs
-
 returns : tie.Need-returns
 returns c = search (needs, commit-log-out)
-
-mul-m : tie.Need-mul-m
-mul-m c = search needs
-
-sub-m : tie.Need-sub-m
-sub-m c = search needs
-
-seal-requires : tie.Need-seal-requires
-seal-requires c κs = search needs
-
-seal-action-requires : tie.Need-seal-action-requires
-seal-action-requires c κs = search needs
 
 returns-2 : tie.Need-returns-2
 returns-2 c = search (needs, commit-seal-out)
@@ -38,13 +20,13 @@ pub commit-action-spec : {M : Type 1} → statement M
 commit-action-spec =
     tie.close
     (tie.spec
-    mul-if1
-    log-action-requires
+    (λ c. search needs)
+    (λ c κs. search needs)
     returns
-    mul-m
-    sub-m
-    seal-requires
-    seal-action-requires
+    (λ c. search needs)
+    (λ c. search needs)
+    (λ c κs. search needs)
+    (λ c κs. search needs)
     returns-2
     redo-action-requires
     returns-3)

@@ -5,24 +5,6 @@ use borrow.Author.Needs.{needs}
 use Rattle.actions.proofs.log_action.Statement.{statement}
 use Rattle.actions.proofs.log_action.Tie as tie
 
-log-a-requires : tie.Need-log-a-requires
-log-a-requires c κs = search needs
-
-log-b-requires : tie.Need-log-b-requires
-log-b-requires c κs = search needs
-
-mul-o : tie.Need-mul-o
-mul-o c = search needs
-
-mul-o-2 : tie.Need-mul-o-2
-mul-o-2 c = search needs
-
-add-o : tie.Need-add-o
-add-o c = search needs
-
-load64-requires : tie.Need-load64-requires
-load64-requires c κs = search needs
-
 add-t14 : tie.Need-add-t14
 add-t14 c = let a = c .before .before .before .before .before in let b = bounds (a .args .s) (a .pre .0) in search needs
 
@@ -45,12 +27,12 @@ pub log-action-spec : {M : Type 1} → statement M
 log-action-spec =
     tie.close
     (tie.spec
-    log-a-requires
-    log-b-requires
-    mul-o
-    mul-o-2
-    add-o
-    load64-requires
+    (λ c κs. search needs)
+    (λ c κs. search needs)
+    (λ c. search needs)
+    (λ c. search needs)
+    (λ c. search needs)
+    (λ c κs. search needs)
     add-t14
     add-t15
     returns

@@ -4,12 +4,6 @@ use borrow.Author.Needs.{needs}
 use Rattle.actions.proofs.seal_action.Statement.{statement}
 use Rattle.actions.proofs.seal_action.Tie as tie
 
-log-a-requires : tie.Need-log-a-requires
-log-a-requires c κs = search needs
-
-log-b-requires : tie.Need-log-b-requires
-log-b-requires c κs = search needs
-
 returns : tie.Need-returns
 returns c = search (needs, seal-first)
 
@@ -20,4 +14,11 @@ returns-3 : tie.Need-returns-3
 returns-3 c = search (needs, seal-barrier)
 
 pub seal-action-spec : {M : Type 1} → statement M
-seal-action-spec = tie.close (tie.spec log-a-requires log-b-requires returns returns-2 returns-3)
+seal-action-spec =
+    tie.close
+    (tie.spec
+    (λ c κs. search needs)
+    (λ c κs. search needs)
+    returns
+    returns-2
+    returns-3)

@@ -5,12 +5,6 @@ use borrow.Author.Needs.{needs}
 use Rattle.allocate.proofs.allocate.Statement.{statement}
 use Rattle.allocate.proofs.allocate.Tie as tie
 
-free-run-requires : tie.Need-free-run-requires
-free-run-requires c κs = search needs
-
-enum-known-found : tie.Need-enum-known-found
-enum-known-found c = search needs
-
 zone-at-requires : tie.Need-zone-at-requires
 zone-at-requires c κs =
     let g = c .before in
@@ -48,9 +42,6 @@ sub-left c =
     let f = fit-at (w .free-run .result) (w .free-run .ensures) (g .found .given .1) in
     omega (arith, f .long, c .cells-for .ensures .0)
 
-cells-requires : tie.Need-cells-requires
-cells-requires c κs = search needs
-
 mul-address : tie.Need-mul-address
 mul-address c =
     let g = c .before .before .before .before in
@@ -76,21 +67,12 @@ place-requires c κs =
     let b = fit-small (s .args .s) (s .pre .shaped .range) f in
     record { few = s .pre .few; tidy = s .pre .staged .tidy; room = s .pre .room; small = f .small; low = omega (arith, b, c .before .before .before .zone-at .ensures .1); short = omega (arith, b) }
 
-enum-known-found-2 : tie.Need-enum-known-found-2
-enum-known-found-2 c = search needs
-
-same-length : tie.Need-same-length
-same-length c = search needs
-
 returns : tie.Need-returns
 returns c =
     let g = c .before .before .before .before .before .before .before .before in
     let w = g .before .before in
     let f = fit-at (w .free-run .result) (w .free-run .ensures) (g .found .given .1) in
     allocate-placed _ _ _ _ _ _ f (c .before .before .place .ensures) (c .before .before .before .before .cells .ensures .0) (omega arith) (c .before .before .before .before .before .before .zone-at .ensures .0) (omega arith) (c .before .before .before .before .before .cells-for .ensures .0) (omega arith)
-
-same-length-2 : tie.Need-same-length-2
-same-length-2 c = search needs
 
 returns-2 : tie.Need-returns-2
 returns-2 c = allocate-refused _ _ _ _ _ _ (c .before .before .before .free-run .result) (c .before .before .before .free-run .ensures) (c .before .found2 .given .1)
@@ -99,19 +81,19 @@ pub allocate-spec : {M : Type 1} → statement M
 allocate-spec =
     tie.close
     (tie.spec
-    free-run-requires
-    enum-known-found
+    (λ c κs. search needs)
+    (λ c. search needs)
     zone-at-requires
     mul-at
     add-at
     cells-for-requires
     sub-left
-    cells-requires
+    (λ c κs. search needs)
     mul-address
     add-address
     place-requires
-    enum-known-found-2
-    same-length
+    (λ c. search needs)
+    (λ c. search needs)
     returns
-    same-length-2
+    (λ c. search needs)
     returns-2)

@@ -4,14 +4,13 @@ use borrow.Author.Needs.{needs}
 use Rattle.allocate.proofs.body_byte.Statement.{statement}
 use Rattle.allocate.proofs.body_byte.Tie as tie
 
-load8-requires : tie.Need-load8-requires
-load8-requires c κs = search needs
-
-returns : tie.Need-returns
-returns c = search needs
-
 returns-2 : tie.Need-returns-2
 returns-2 c = loaded-past (c .if1 .left)
 
 pub body-byte-spec : {M : Type 1} → statement M
-body-byte-spec = tie.close (tie.spec load8-requires returns returns-2)
+body-byte-spec =
+    tie.close
+    (tie.spec
+    (λ c κs. search needs)
+    (λ c. search needs)
+    returns-2)

@@ -13,26 +13,11 @@ Inv-loop body at word₀ i₀ word i = (i ≤ 8) × Loaded (8 - i) body (at + i)
 abbrev μ-loop : tie.MeasureT-loop
 μ-loop body at word₀ i₀ word i = i
 
-add-if1 : tie.Need-add-if1 Inv-loop μ-loop
-add-if1 c = search needs
-
-load64-requires : tie.Need-load64-requires Inv-loop μ-loop
-load64-requires c κs = search needs
-
 returns : tie.Need-returns Inv-loop μ-loop
 returns c = c .load64 .ensures
 
 loop-holds : tie.Need-loop-holds Inv-loop μ-loop
 loop-holds c = (omega arith, loaded-none _ _)
-
-sub-i : tie.Need-sub-i Inv-loop μ-loop
-sub-i c = search needs
-
-add-body-byte : tie.Need-add-body-byte Inv-loop μ-loop
-add-body-byte c = search needs
-
-body-byte-requires : tie.Need-body-byte-requires Inv-loop μ-loop
-body-byte-requires c κs = search needs
 
 mul-word : tie.Need-mul-word Inv-loop μ-loop
 mul-word c =
@@ -45,9 +30,6 @@ add-word c =
     let l = c .before .before .loop in
     let u = loaded-more (c .before .before .before .before .before .args .at) (l .i) (c .before .loop-test .taken) (l .inv .0) (l .inv .1) (c .body-byte .ensures) in
     omega (arith, loaded-small (let b : 8 - (l .i - 1) ≤ 8 = omega arith in b) u)
-
-loop-less : tie.Need-loop-less Inv-loop μ-loop
-loop-less c = search needs
 
 loop-again : tie.Need-loop-again Inv-loop μ-loop
 loop-again c =
@@ -64,15 +46,15 @@ body-word-spec =
     (tie.spec
     Inv-loop
     μ-loop
-    add-if1
-    load64-requires
+    (λ c. search needs)
+    (λ c κs. search needs)
     returns
     loop-holds
-    sub-i
-    add-body-byte
-    body-byte-requires
+    (λ c. search needs)
+    (λ c. search needs)
+    (λ c κs. search needs)
     mul-word
     add-word
-    loop-less
+    (λ c. search needs)
     loop-again
     returns-2)

@@ -11,14 +11,15 @@ returns c = fits-empty _ _ _ (omega arith)
 returns-2 : tie.Need-returns-2
 returns-2 c = fits-long _ _ _ (omega arith)
 
-cells-for-requires : tie.Need-cells-for-requires
-cells-for-requires c κs = search needs
-
-search-requires : tie.Need-search-requires
-search-requires c κs = search needs
-
 returns-3 : tie.Need-returns-3
 returns-3 c = fits-found _ _ _ (c .search .result) (c .before .before .before .if1 .left) (c .before .before .if2 .left) (c .before .cells-for .ensures .0) (c .search .ensures)
 
 pub free-run-spec : {M : Type 1} → statement M
-free-run-spec = tie.close (tie.spec returns returns-2 cells-for-requires search-requires returns-3)
+free-run-spec =
+    tie.close
+    (tie.spec
+    returns
+    returns-2
+    (λ c κs. search needs)
+    (λ c κs. search needs)
+    returns-3)

@@ -22,37 +22,16 @@ all-fresh-requires c κs = let s = c .before .before .before in (room-count (s .
 loop-holds : tie.Need-loop-holds Inv-loop μ-loop
 loop-holds c = (omega arith, touched-none _ _ _ _)
 
-mul-body-word : tie.Need-mul-body-word Inv-loop μ-loop
-mul-body-word c = search needs
-
-body-word-requires : tie.Need-body-word-requires Inv-loop μ-loop
-body-word-requires c κs = search needs
-
-mul-touch-known : tie.Need-mul-touch-known Inv-loop μ-loop
-mul-touch-known c = search needs
-
-add-touch-known : tie.Need-add-touch-known Inv-loop μ-loop
-add-touch-known c = search needs
-
 touch-known-requires : tie.Need-touch-known-requires Inv-loop μ-loop
 touch-known-requires c κs =
     let t = c .before .before in
     let l = t .before in
     (room-within (l .before .before .before .before .before .pre .0) (t .loop-test .taken) (l .loop .inv .1), λ f. fresh-next (l .before .all-fresh .ensures f) (t .loop-test .taken) (l .loop .inv .1) (omega arith))
 
-add-i : tie.Need-add-i Inv-loop μ-loop
-add-i c = search needs
-
-loop-less : tie.Need-loop-less Inv-loop μ-loop
-loop-less c = search needs
-
 loop-again : tie.Need-loop-again Inv-loop μ-loop
 loop-again c =
     let b = c .before .before .before .before in
     (search needs, touched-word (b .before .before .loop .inv .1) (b .body-word .ensures) (c .before .before .touch-known .ensures) (omega arith) (omega arith))
-
-same-length : tie.Need-same-length Inv-loop μ-loop
-same-length c = search needs
 
 returns : tie.Need-returns Inv-loop μ-loop
 returns c = touched-whole (c .before .loop .inv .0) (c .loop-test .left) (c .before .loop .inv .1)
@@ -65,13 +44,13 @@ touch-body-spec =
     μ-loop
     all-fresh-requires
     loop-holds
-    mul-body-word
-    body-word-requires
-    mul-touch-known
-    add-touch-known
+    (λ c. search needs)
+    (λ c κs. search needs)
+    (λ c. search needs)
+    (λ c. search needs)
     touch-known-requires
-    add-i
-    loop-less
+    (λ c. search needs)
+    (λ c. search needs)
     loop-again
-    same-length
+    (λ c. search needs)
     returns)

@@ -4,22 +4,10 @@ use borrow.Author.Needs.{needs}
 use Rattle.allocate.proofs.touch_object.Statement.{statement}
 use Rattle.allocate.proofs.touch_object.Tie as tie
 
-object-head-requires : tie.Need-object-head-requires
-object-head-requires c κs = search needs
-
-cells-for-requires : tie.Need-cells-for-requires
-cells-for-requires c κs = search needs
-
-mul-words : tie.Need-mul-words
-mul-words c = search needs
-
 touch-head-requires : tie.Need-touch-head-requires
 touch-head-requires c κs =
     let s = c .before .before .before .before .before in
     (room-head _ (s .pre .0) (c .before .cells-for .ensures .0), search needs, λ f. fresh-head _ _ _ _ (s .pre .3 f) (c .before .cells-for .ensures .0))
-
-add-touch-body : tie.Need-add-touch-body
-add-touch-body c = search needs
 
 sub-touch-body : tie.Need-sub-touch-body
 sub-touch-body c = let h = cells-some _ (c .before .before .before .before .before .cells-for .ensures .0) in search needs
@@ -28,9 +16,6 @@ touch-body-requires : tie.Need-touch-body-requires
 touch-body-requires c κs =
     let k = c .before .before .before .before .before in
     (room-body _ (k .before .before .before .before .pre .0) (k .cells-for .ensures .0) (c .before .before .before .touch-head .ensures), search needs, search needs, λ f. fresh-body _ _ _ _ (k .before .before .before .before .pre .3 f) (k .cells-for .ensures .0) (c .before .before .before .touch-head .ensures))
-
-same-length : tie.Need-same-length
-same-length c = search needs
 
 returns : tie.Need-returns
 returns c =
@@ -41,12 +26,12 @@ pub touch-object-spec : {M : Type 1} → statement M
 touch-object-spec =
     tie.close
     (tie.spec
-    object-head-requires
-    cells-for-requires
-    mul-words
+    (λ c κs. search needs)
+    (λ c κs. search needs)
+    (λ c. search needs)
     touch-head-requires
-    add-touch-body
+    (λ c. search needs)
     sub-touch-body
     touch-body-requires
-    same-length
+    (λ c. search needs)
     returns)

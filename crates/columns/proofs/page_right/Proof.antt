@@ -9,9 +9,6 @@ use Rattle.columns.proofs.Pages.{front-count, front-filled, front-fits,
 use Rattle.columns.proofs.page_right.Statement.{statement}
 use Rattle.columns.proofs.page_right.Tie as tie
 
-array-borrow-prefix-sum : tie.Need-array-borrow-prefix-sum
-array-borrow-prefix-sum c = search needs
-
 slice-aggregate-xor-pages : tie.Need-slice-aggregate-xor-pages
 slice-aggregate-xor-pages c = let a = c .before .before in sym (front-length (a .args .page) pageSize (a .pre .1))
 
@@ -28,9 +25,6 @@ slice-aggregate-all-zero c =
     let a = c .before .before .before .before .before in
     let x = c .before .before .xor-pages in sym (front-count (a .args .page) pageSize (a .pre .1) (x .last .0) (x .kept .0))
 
-all-zero-requires : tie.Need-all-zero-requires
-all-zero-requires c κs = search needs
-
 returns : tie.Need-returns
 returns c =
     let a = c .before .before .before .before .before .before in
@@ -43,10 +37,10 @@ pub page-right-spec : {M : Type 1} → statement M
 page-right-spec =
     tie.close
     (tie.spec
-    array-borrow-prefix-sum
+    (λ c. search needs)
     slice-aggregate-xor-pages
     xor-pages-requires
     array-share-prefix-sum
     slice-aggregate-all-zero
-    all-zero-requires
+    (λ c κs. search needs)
     returns)

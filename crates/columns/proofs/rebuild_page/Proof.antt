@@ -16,9 +16,6 @@ use Rattle.columns.proofs.rebuild_page.Tie as tie
 room : (c : tie.Start) → c .args .at + c .args .lost * c .args .stride + c .args .page ≤ length (c .args .pool .now)
 room c = omega (arith, row-room (c .args .lost) (c .args .rows) (c .args .stride) (c .pre .1))
 
-array-borrow-prefix-sum : tie.Need-array-borrow-prefix-sum
-array-borrow-prefix-sum c = search needs
-
 slice-aggregate-xor-pages : tie.Need-slice-aggregate-xor-pages
 slice-aggregate-xor-pages c = let a = c .before .before in sym (front-length (a .args .page) pageSize (a .pre .2))
 
@@ -46,9 +43,6 @@ store-requires c κs =
     let a = c .before .before .before .before .before .before .before in
     let x = c .before .before .before .xor-pages in same-room (a .args .at + a .args .lost * a .args .stride) (a .args .page) _ _ (front-count (a .args .page) pageSize (a .pre .2) (x .last .0) (x .kept .0)) (room a)
 
-same-length : tie.Need-same-length
-same-length c = search needs
-
 returns : tie.Need-returns
 returns c =
     let a = c .before .before .before .before .before .before .before .before .before .before in
@@ -61,7 +55,7 @@ pub rebuild-page-spec : {M : Type 1} → statement M
 rebuild-page-spec =
     tie.close
     (tie.spec
-    array-borrow-prefix-sum
+    (λ c. search needs)
     slice-aggregate-xor-pages
     xor-pages-requires
     mul-store
@@ -69,5 +63,5 @@ rebuild-page-spec =
     array-share-prefix-sum
     slice-aggregate-store
     store-requires
-    same-length
+    (λ c. search needs)
     returns)

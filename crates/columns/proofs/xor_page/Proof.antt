@@ -19,33 +19,12 @@ abbrev μ-loop : tie.MeasureT-loop
 loop-holds : tie.Need-loop-holds Inv-loop μ-loop
 loop-holds c = (refl, storing-start _ _ _)
 
-slice-read-sum : tie.Need-slice-read-sum Inv-loop μ-loop
-slice-read-sum c = search needs
-
-add-sum : tie.Need-add-sum Inv-loop μ-loop
-add-sum c = search needs
-
-shared-slice-read-sum : tie.Need-shared-slice-read-sum Inv-loop μ-loop
-shared-slice-read-sum c = search needs
-
-slice-write-sum : tie.Need-slice-write-sum Inv-loop μ-loop
-slice-write-sum c = search needs
-
-add-i : tie.Need-add-i Inv-loop μ-loop
-add-i c = search needs
-
-loop-less : tie.Need-loop-less Inv-loop μ-loop
-loop-less c = search needs
-
 loop-again : tie.Need-loop-again Inv-loop μ-loop
 loop-again c =
     let a = c .before .before .before .before in
     let l = c .before .before .before .loop in
     let h : l .i < length (a .args .sum .now) = omega arith in
     (l .inv .0, storing-step (l .inv .1) (let e = xored-length (a .args .sum .now) (a .args .pool .now) (a .args .at) in omega arith) (omega arith) (xored-byte (a .args .sum .now) (a .args .pool .now) (a .args .at) (l .inv .1) h))
-
-same-length : tie.Need-same-length Inv-loop μ-loop
-same-length c = search needs
 
 returns : tie.Need-returns Inv-loop μ-loop
 returns c = let a = c .before .before in xored-end (a .args .sum .now) (a .args .pool .now) (a .args .at) (c .before .loop .inv .1) (omega arith)
@@ -57,12 +36,12 @@ xor-page-spec =
     Inv-loop
     μ-loop
     loop-holds
-    slice-read-sum
-    add-sum
-    shared-slice-read-sum
-    slice-write-sum
-    add-i
-    loop-less
+    (λ c. search needs)
+    (λ c. search needs)
+    (λ c. search needs)
+    (λ c. search needs)
+    (λ c. search needs)
+    (λ c. search needs)
     loop-again
-    same-length
+    (λ c. search needs)
     returns)

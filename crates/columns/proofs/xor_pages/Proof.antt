@@ -35,12 +35,6 @@ add-xor-page c = omega (arith, room (c .before .before))
 xor-page-requires : tie.Need-xor-page-requires Inv-loop μ-loop
 xor-page-requires c κs = omega (arith, room (c .before .before))
 
-add-k : tie.Need-add-k Inv-loop μ-loop
-add-k c = search needs
-
-loop-less : tie.Need-loop-less Inv-loop μ-loop
-loop-less c = search needs
-
 loop-again : tie.Need-loop-again Inv-loop μ-loop
 loop-again c =
     let a = c .before .before .before .before .before in
@@ -52,9 +46,6 @@ loop-again c =
           (λ w. w .1 ∙ l .inv .2 ∙ pages-out (a .args .pool .now) (a .args .at) (a .args .stride) (a .args .without) (length (a .args .sum .now)) (w .0 .left))
           (c .if1 .came),
     )
-
-same-length : tie.Need-same-length Inv-loop μ-loop
-same-length c = search needs
 
 returns : tie.Need-returns Inv-loop μ-loop
 returns c = let e : c .before .loop .k ≡ c .before .before .before .before .args .rows = omega arith in rw (← e) (c .before .loop .inv .2)
@@ -69,8 +60,8 @@ xor-pages-spec =
     mul-xor-page
     add-xor-page
     xor-page-requires
-    add-k
-    loop-less
+    (λ c. search needs)
+    (λ c. search needs)
     loop-again
-    same-length
+    (λ c. search needs)
     returns)

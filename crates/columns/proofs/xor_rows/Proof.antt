@@ -33,12 +33,6 @@ add-load64 c = omega (arith, room c)
 load64-requires : tie.Need-load64-requires Inv-loop μ-loop
 load64-requires c κs = omega (arith, room c)
 
-add-k : tie.Need-add-k Inv-loop μ-loop
-add-k c = search needs
-
-loop-less : tie.Need-loop-less Inv-loop μ-loop
-loop-less c = search needs
-
 loop-again : tie.Need-loop-again Inv-loop μ-loop
 unfolding word
 loop-again c =
@@ -59,7 +53,7 @@ xor-rows-spec =
     mul-load64
     add-load64
     load64-requires
-    add-k
-    loop-less
+    (λ c. search needs)
+    (λ c. search needs)
     loop-again
     returns)

@@ -8,20 +8,8 @@ use Rattle.commit.proofs.make.Tie as tie
 commit-action-requires : tie.Need-commit-action-requires
 commit-action-requires c κs = let s = c .before .before .before in (s .pre .0, s .pre .1, entry-there (s .args .txn .count) (s .pre .2))
 
-apply-requires : tie.Need-apply-requires
-apply-requires c κs = search needs
-
 add-told : tie.Need-add-told
 add-told c = let s = c .before .before .before .before .before .before .before .before in let f = steps-few (s .args .txn .count) (s .pre .1 .few) in let w = s .pre .2 in search needs
-
-steps-requires : tie.Need-steps-requires
-steps-requires c κs = search needs
-
-told-requires : tie.Need-told-requires
-told-requires c κs = search needs
-
-same-length : tie.Need-same-length
-same-length c = search needs
 
 returns : tie.Need-returns
 returns c = let s = c .before .before .before .before .before .before .before .before .before .before in made (shapeOf (s .args .s)) (s .args .pool .now) (s .args .staging .now) (s .args .txn) (s .args .k) (c .before .before .before .before .before .before .commit-action .result) _ (c .told .result) _ _ (c .before .before .before .before .before .before .commit-action .ensures) (c .before .before .before .before .apply .ensures) (c .before .steps .ensures) (c .told .ensures)
@@ -31,9 +19,9 @@ make-spec =
     tie.close
     (tie.spec
     commit-action-requires
-    apply-requires
+    (λ c κs. search needs)
     add-told
-    steps-requires
-    told-requires
-    same-length
+    (λ c κs. search needs)
+    (λ c κs. search needs)
+    (λ c. search needs)
     returns)

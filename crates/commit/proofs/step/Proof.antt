@@ -7,20 +7,8 @@ use borrow.Author.Needs.{needs}
 use Rattle.commit.proofs.step.Statement.{statement}
 use Rattle.commit.proofs.step.Tie as tie
 
-enum-told : tie.Need-enum-told
-enum-told c = search needs
-
-enum-told-2 : tie.Need-enum-told-2
-enum-told-2 c = search needs
-
-enum-known-phase : tie.Need-enum-known-phase
-enum-known-phase c = search needs
-
 sealed-requires : tie.Need-sealed-requires
 sealed-requires c κs = let s = c .before .before .before .before .before .before in record-shaped _ (s .pre)
-
-same-length : tie.Need-same-length
-same-length c = search needs
 
 returns : tie.Need-returns
 returns c = let s = c .before .before .before .before .before .before .before .before in step-sealed _ (s .pre) (ap phaseOf (c .before .before .before .before .phase .given .1)) (c .before .sealed .ensures) (c .if1 .taken)
@@ -34,9 +22,6 @@ returns-2 c = let s = c .before .before .before .before in step-open _ (s .pre) 
 returns-3 : tie.Need-returns-3
 returns-3 c = let s = c .before .before .before .before in step-closed _ (s .pre) (ap phaseOf (c .enum-told2 .given .1))
 
-same-length-2 : tie.Need-same-length-2
-same-length-2 c = search needs
-
 returns-4 : tie.Need-returns-4
 returns-4 c = let s = c .before .before .before .before .before .before .before .before .before .before .before .before in step-made _ (s .pre) (ap phaseOf (c .before .before .before .before .before .before .before .before .phase .given .1)) (c .before .before .before .before .before .sealed .ensures) (c .before .before .before .before .if1 .left) (c .before .before .make .ensures)
 
@@ -44,14 +29,14 @@ pub step-spec : {M : Type 1} → statement M
 step-spec =
     tie.close
     (tie.spec
-    enum-told
-    enum-told-2
-    enum-known-phase
+    (λ c. search needs)
+    (λ c. search needs)
+    (λ c. search needs)
     sealed-requires
-    same-length
+    (λ c. search needs)
     returns
     make-requires
     returns-2
     returns-3
-    same-length-2
+    (λ c. search needs)
     returns-4)

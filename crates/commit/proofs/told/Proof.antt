@@ -7,12 +7,6 @@ use Rattle.commit.proofs.told.Tie as tie
 returns : tie.Need-returns
 returns c = told-last (c .before .args .txn) (c .before .args .action) _ _ (c .if1 .taken)
 
-enum-told : tie.Need-enum-told
-enum-told c = search needs
-
-enum-told-2 : tie.Need-enum-told-2
-enum-told-2 c = search needs
-
 returns-2 : tie.Need-returns-2
 returns-2 c = let s = c .before .before .before .args in rw (c .enum-told .given .1) (told-more (s .txn) _ (s .k) (s .n) (c .before .before .if1 .left))
 
@@ -20,4 +14,11 @@ returns-3 : tie.Need-returns-3
 returns-3 c = let s = c .before .before .before .args in rw (c .enum-told2 .given .1) (told-more (s .txn) _ (s .k) (s .n) (c .before .before .if1 .left))
 
 pub told-spec : {M : Type 1} → statement M
-told-spec = tie.close (tie.spec returns enum-told enum-told-2 returns-2 returns-3)
+told-spec =
+    tie.close
+    (tie.spec
+    returns
+    (λ c. search needs)
+    (λ c. search needs)
+    returns-2
+    returns-3)

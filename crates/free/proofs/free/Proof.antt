@@ -11,15 +11,6 @@ spot-at-requires c κs = let s = c .before .before .before in (s .pre .staged, s
 object-in-requires : tie.Need-object-in-requires
 object-in-requires c κs = let s = c .before .before .before .before .before in (s .pre .staged, s .pre .shaped, c .before .spot-at .ensures)
 
-enum-known-n : tie.Need-enum-known-n
-enum-known-n c = search needs
-
-enum-told : tie.Need-enum-told
-enum-told c = search needs
-
-cells-requires : tie.Need-cells-requires
-cells-requires c κs = search needs
-
 div-zone : tie.Need-div-zone
 div-zone c = search (needs, free-some)
 
@@ -42,9 +33,6 @@ joined-requires c κs =
     let k = known (c .before) in
     (k .judged .staged, k .zoned, free-cell k, free-whole k, free-there k, free-spotted k (c .before .before .before .before .before .before .before .spot-at .ensures))
 
-mul-touch-free : tie.Need-mul-touch-free
-mul-touch-free c = search needs
-
 add-touch-free : tie.Need-add-touch-free
 add-touch-free c = omega (arith, free-low (known (c .before .before .before .before)) (c .before .before .joined .ensures))
 
@@ -54,14 +42,8 @@ touch-free-requires c κs =
     let j = c .before .before .joined .ensures in
     (k .judged .few, k .judged .room, omega (arith, free-low k j), free-small k j, k .judged .staged .tidy)
 
-same-length : tie.Need-same-length
-same-length c = search needs
-
 returns : tie.Need-returns
 returns c = let q = c .before .n .given .1 in search (needs, free-refused)
-
-same-length-2 : tie.Need-same-length-2
-same-length-2 c = search needs
 
 returns-2 : tie.Need-returns-2
 returns-2 c =
@@ -74,17 +56,17 @@ free-spec =
     (tie.spec
     spot-at-requires
     object-in-requires
-    enum-known-n
-    enum-told
-    cells-requires
+    (λ c. search needs)
+    (λ c. search needs)
+    (λ c κs. search needs)
     div-zone
     zone-requires
     rem-joined
     joined-requires
-    mul-touch-free
+    (λ c. search needs)
     add-touch-free
     touch-free-requires
-    same-length
+    (λ c. search needs)
     returns
-    same-length-2
+    (λ c. search needs)
     returns-2)

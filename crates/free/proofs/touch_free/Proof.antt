@@ -7,28 +7,13 @@ use borrow.Author.Needs.{needs}
 use Rattle.free.proofs.touch_free.Statement.{statement}
 use Rattle.free.proofs.touch_free.Tie as tie
 
-fresh-words-requires : tie.Need-fresh-words-requires
-fresh-words-requires c κs = search needs
-
-add-if1 : tie.Need-add-if1
-add-if1 c = search needs
-
-same-length : tie.Need-same-length
-same-length c = search needs
-
 returns : tie.Need-returns
 returns c = let h = c .before .before .before .before in free-many (h .args .staging .now) (h .args .count) (h .args .at) (h .args .cells) (c .before .fresh-words .ensures .0) (omega (arith, c .if1 .taken))
-
-free-head-requires : tie.Need-free-head-requires
-free-head-requires c κs = search needs
 
 touch-head-requires : tie.Need-touch-head-requires
 touch-head-requires c κs =
     let w = c .before .before .before .fresh-words .ensures .0 in
     (search needs, search needs, λ f. sym w ∙ eqb-true _ 2 f)
-
-same-length-2 : tie.Need-same-length-2
-same-length-2 c = search needs
 
 returns-2 : tie.Need-returns-2
 returns-2 c =
@@ -40,11 +25,11 @@ pub touch-free-spec : {M : Type 1} → statement M
 touch-free-spec =
     tie.close
     (tie.spec
-    fresh-words-requires
-    add-if1
-    same-length
+    (λ c κs. search needs)
+    (λ c. search needs)
+    (λ c. search needs)
     returns
-    free-head-requires
+    (λ c κs. search needs)
     touch-head-requires
-    same-length-2
+    (λ c. search needs)
     returns-2)

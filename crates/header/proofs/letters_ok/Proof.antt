@@ -10,15 +10,14 @@ use Rattle.header.proofs.letters_ok.Tie as tie
 slice-aggregate-same : tie.Need-slice-aggregate-same
 slice-aggregate-same c = sym (length-take-le 4 (c .before .before .args .h .now) (omega arith))
 
-slice-aggregate-same-2 : tie.Need-slice-aggregate-same-2
-slice-aggregate-same-2 c = search needs
-
-same-requires : tie.Need-same-requires
-same-requires c κs = search needs
-
 returns : tie.Need-returns
 returns c = same-is (c .same .result) _ _ (c .same .ensures .0) (c .same .ensures .1)
 
 pub letters-ok-spec : {M : Type 1} → statement M
 letters-ok-spec =
-    tie.close (tie.spec slice-aggregate-same slice-aggregate-same-2 same-requires returns)
+    tie.close
+    (tie.spec
+    slice-aggregate-same
+    (λ c. search needs)
+    (λ c κs. search needs)
+    returns)

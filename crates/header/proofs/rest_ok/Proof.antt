@@ -16,22 +16,10 @@ Inv-loop h bits₀ i₀ bits i = (i % 8 ≡ 0) × (i ≤ pageSize) × ((eqb bits
 abbrev μ-loop : tie.MeasureT-loop
 μ-loop h bits₀ i₀ bits i = pageSize - i
 
-load32-requires : tie.Need-load32-requires Inv-loop μ-loop
-load32-requires c κs = search needs
-
 loop-holds : tie.Need-loop-holds Inv-loop μ-loop
 loop-holds c =
     let s = c .before .before in
     (refl, omega arith, zeros-join (s .args .h .now) (s .pre) 4 20 0 _ _ (omega arith) (c .load32 .ensures) refl)
-
-load64-requires : tie.Need-load64-requires Inv-loop μ-loop
-load64-requires c κs = search needs
-
-add-i : tie.Need-add-i Inv-loop μ-loop
-add-i c = search needs
-
-loop-less : tie.Need-loop-less Inv-loop μ-loop
-loop-less c = search needs
 
 loop-again : tie.Need-loop-again Inv-loop μ-loop
 loop-again c =
@@ -52,10 +40,10 @@ rest-ok-spec =
     (tie.spec
     Inv-loop
     μ-loop
-    load32-requires
+    (λ c κs. search needs)
     loop-holds
-    load64-requires
-    add-i
-    loop-less
+    (λ c κs. search needs)
+    (λ c. search needs)
+    (λ c. search needs)
     loop-again
     returns)

@@ -6,22 +6,13 @@ use borrow.Author.Needs.{needs}
 use Rattle.header.proofs.valid.Statement.{statement}
 use Rattle.header.proofs.valid.Tie as tie
 
-letters-ok-requires : tie.Need-letters-ok-requires
-letters-ok-requires c κs = search needs
-
 returns : tie.Need-returns
 unfolding headerOk headerId
 returns c = search (needs, and-stop)
 
-shape-ok-requires : tie.Need-shape-ok-requires
-shape-ok-requires c κs = search needs
-
 returns-2 : tie.Need-returns-2
 unfolding headerOk headerId
 returns-2 c = search (needs, and-stop, and-go)
-
-byte-requires : tie.Need-byte-requires
-byte-requires c κs = search needs
 
 returns-3 : tie.Need-returns-3
 unfolding headerOk headerId
@@ -29,9 +20,6 @@ returns-3 c =
     let s = c .before .before in
     let l = s .before .before in
     and-go _ _ _ _ (l .if1 .left) (l .before .letters-ok .ensures) (and-go _ _ _ _ (s .if2 .left) (s .before .shape-ok .ensures) (eq-stop (c .before .byte .result) _ 1 _ (λ e. omega arith) (c .before .byte .ensures .0)))
-
-load64-requires : tie.Need-load64-requires
-load64-requires c κs = search needs
 
 returns-4 : tie.Need-returns-4
 unfolding headerOk headerId
@@ -41,15 +29,9 @@ returns-4 c =
     let l = s .before .before in
     and-go _ _ _ _ (l .if1 .left) (l .before .letters-ok .ensures) (and-go _ _ _ _ (s .if2 .left) (s .before .shape-ok .ensures) (eq-go _ _ _ _ _ (v .if3 .left) (v .before .byte .ensures .0) (ne-stop (c .before .load64 .result) _ 0 _ (omega arith) (c .before .load64 .ensures .value))))
 
-check-ok-requires : tie.Need-check-ok-requires
-check-ok-requires c κs = search needs
-
 returns-5 : tie.Need-returns-5
 unfolding headerOk headerId
 returns-5 c = search (needs, and-stop, and-go, eq-go, ne-go) depth 12
-
-rest-ok-requires : tie.Need-rest-ok-requires
-rest-ok-requires c κs = search needs
 
 returns-6 : tie.Need-returns-6
 unfolding headerOk headerId
@@ -59,15 +41,15 @@ pub valid-spec : {M : Type 1} → statement M
 valid-spec =
     tie.close
     (tie.spec
-    letters-ok-requires
+    (λ c κs. search needs)
     returns
-    shape-ok-requires
+    (λ c κs. search needs)
     returns-2
-    byte-requires
+    (λ c κs. search needs)
     returns-3
-    load64-requires
+    (λ c κs. search needs)
     returns-4
-    check-ok-requires
+    (λ c κs. search needs)
     returns-5
-    rest-ok-requires
+    (λ c κs. search needs)
     returns-6)

@@ -8,11 +8,10 @@ use Rattle.heads.proofs.feed_first.Tie as tie
 slice-aggregate-feed : tie.Need-slice-aggregate-feed
 slice-aggregate-feed c = sym (length-take-le _ _ (c .before .before .pre .1))
 
-feed-requires : tie.Need-feed-requires
-feed-requires c κs = search needs
-
-returns : tie.Need-returns
-returns c = search needs
-
 pub feed-first-spec : {M : Type 1} → statement M
-feed-first-spec = tie.close (tie.spec slice-aggregate-feed feed-requires returns)
+feed-first-spec =
+    tie.close
+    (tie.spec
+    slice-aggregate-feed
+    (λ c κs. search needs)
+    (λ c. search needs))

@@ -4,18 +4,6 @@ use borrow.Author.Needs.{needs}
 use Rattle.heads.proofs.put_head.Statement.{statement}
 use Rattle.heads.proofs.put_head.Tie as tie
 
-store64-requires : tie.Need-store64-requires
-store64-requires c κs = search needs
-
-add-store64 : tie.Need-add-store64
-add-store64 c = search needs
-
-store64-requires-2 : tie.Need-store64-requires-2
-store64-requires-2 c κs = search needs
-
-same-length : tie.Need-same-length
-same-length c = search needs
-
 returns : tie.Need-returns
 returns c =
     let s = c .before .before in
@@ -24,4 +12,10 @@ returns c =
 
 pub put-head-spec : {M : Type 1} → statement M
 put-head-spec =
-    tie.close (tie.spec store64-requires add-store64 store64-requires-2 same-length returns)
+    tie.close
+    (tie.spec
+    (λ c κs. search needs)
+    (λ c. search needs)
+    (λ c κs. search needs)
+    (λ c. search needs)
+    returns)

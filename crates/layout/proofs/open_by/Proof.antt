@@ -8,24 +8,6 @@ use borrow.Author.Needs.{needs}
 use Rattle.layout.proofs.open_by.Statement.{statement}
 use Rattle.layout.proofs.open_by.Tie as tie
 
-byte-requires : tie.Need-byte-requires
-byte-requires c κs = search needs
-
-byte-requires-2 : tie.Need-byte-requires-2
-byte-requires-2 c κs = search needs
-
-byte-requires-3 : tie.Need-byte-requires-3
-byte-requires-3 c κs = search needs
-
-new-requires : tie.Need-new-requires
-new-requires c κs = search needs
-
-enum-told : tie.Need-enum-told
-enum-told c = search needs
-
-enum-known-s : tie.Need-enum-known-s
-enum-known-s c = search needs
-
 -- the shape made is the header's
 of-header : (c : tie.After-known-told) → (shapeOf (c .before .s .given .0 .0) ≡ headerShape (c .before .before .before .before .before .before .before .before .args .h .now)) × InRange (shapeOf (c .before .s .given .0 .0))
 of-header c =
@@ -50,12 +32,12 @@ pub open-by-spec : {M : Type 1} → statement M
 open-by-spec =
     tie.close
     (tie.spec
-    byte-requires
-    byte-requires-2
-    byte-requires-3
-    new-requires
-    enum-told
-    enum-known-s
+    (λ c κs. search needs)
+    (λ c κs. search needs)
+    (λ c κs. search needs)
+    (λ c κs. search needs)
+    (λ c. search needs)
+    (λ c. search needs)
     size-requires
     returns
     returns-2

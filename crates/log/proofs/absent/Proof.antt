@@ -17,23 +17,8 @@ abbrev μ-loop : tie.MeasureT-loop
 loop-holds : tie.Need-loop-holds Inv-loop μ-loop
 loop-holds c = let a = c .before .args in (omega arith, ap (absentFrom (a .t)) (read-all (a .p .now) (a .at) (a .n)))
 
-mul-load64 : tie.Need-mul-load64 Inv-loop μ-loop
-mul-load64 c = search needs
-
-add-load64 : tie.Need-add-load64 Inv-loop μ-loop
-add-load64 c = search needs
-
-load64-requires : tie.Need-load64-requires Inv-loop μ-loop
-load64-requires c κs = search needs
-
 returns : tie.Need-returns Inv-loop μ-loop
 returns c = search (needs, absent-hit)
-
-add-i : tie.Need-add-i Inv-loop μ-loop
-add-i c = search needs
-
-loop-less : tie.Need-loop-less Inv-loop μ-loop
-loop-less c = search needs
 
 loop-again : tie.Need-loop-again Inv-loop μ-loop
 loop-again c = search (needs, absent-on)
@@ -48,11 +33,11 @@ absent-spec =
     Inv-loop
     μ-loop
     loop-holds
-    mul-load64
-    add-load64
-    load64-requires
+    (λ c. search needs)
+    (λ c. search needs)
+    (λ c κs. search needs)
     returns
-    add-i
-    loop-less
+    (λ c. search needs)
+    (λ c. search needs)
     loop-again
     returns-2)

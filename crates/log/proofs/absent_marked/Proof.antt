@@ -7,11 +7,10 @@ use Rattle.log.proofs.absent_marked.Tie as tie
 returns : tie.Need-returns
 returns c = sym (c .before .before .pre .1 (c .if1 .taken))
 
-absent-requires : tie.Need-absent-requires
-absent-requires c κs = search needs
-
-returns-2 : tie.Need-returns-2
-returns-2 c = search needs
-
 pub absent-marked-spec : {M : Type 1} → statement M
-absent-marked-spec = tie.close (tie.spec returns absent-requires returns-2)
+absent-marked-spec =
+    tie.close
+    (tie.spec
+    returns
+    (λ c κs. search needs)
+    (λ c. search needs))

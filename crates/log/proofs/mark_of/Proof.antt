@@ -4,12 +4,13 @@ use borrow.Author.Needs.{needs}
 use Rattle.log.proofs.mark_of.Statement.{statement}
 use Rattle.log.proofs.mark_of.Tie as tie
 
-mul-result : tie.Need-mul-result
-mul-result c = search needs
-
 returns : tie.Need-returns
 unfolding markOf
 returns c = search needs
 
 pub mark-of-spec : {M : Type 1} → statement M
-mark-of-spec = tie.close (tie.spec mul-result returns)
+mark-of-spec =
+    tie.close
+    (tie.spec
+    (λ c. search needs)
+    returns)

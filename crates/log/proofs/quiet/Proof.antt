@@ -6,15 +6,6 @@ use borrow.Author.Needs.{needs}
 use Rattle.log.proofs.quiet.Statement.{statement}
 use Rattle.log.proofs.quiet.Tie as tie
 
-open-requires : tie.Need-open-requires
-open-requires c κs = search needs
-
-enum-known-n : tie.Need-enum-known-n
-enum-known-n c = search needs
-
-enum-known-s : tie.Need-enum-known-s
-enum-known-s c = search needs
-
 seals-zero-requires : tie.Need-seals-zero-requires
 seals-zero-requires c κs = open-shaped _ _ (sym (c .before .before .before .«open» .ensures) ∙ c .before .s .given .1)
 
@@ -31,9 +22,9 @@ pub quiet-spec : {M : Type 1} → statement M
 quiet-spec =
     tie.close
     (tie.spec
-    open-requires
-    enum-known-n
-    enum-known-s
+    (λ c κs. search needs)
+    (λ c. search needs)
+    (λ c. search needs)
     seals-zero-requires
     returns
     returns-2

@@ -6,12 +6,6 @@ use borrow.Author.Needs.{needs}
 use Rattle.log.proofs.seals_zero.Statement.{statement}
 use Rattle.log.proofs.seals_zero.Tie as tie
 
-log-a-requires : tie.Need-log-a-requires
-log-a-requires c κs = search needs
-
-log-b-requires : tie.Need-log-b-requires
-log-b-requires c κs = search needs
-
 load64-requires : tie.Need-load64-requires
 load64-requires c κs = let a = c .before .before .before in omega (arith, log-room (a .args .s) _ (a .pre) _ (at-log-a (c .before .log-a .ensures)))
 
@@ -29,4 +23,10 @@ returns-2 c =
 pub seals-zero-spec : {M : Type 1} → statement M
 seals-zero-spec =
     tie.close
-    (tie.spec log-a-requires log-b-requires load64-requires returns load64-requires-2 returns-2)
+    (tie.spec
+    (λ c κs. search needs)
+    (λ c κs. search needs)
+    load64-requires
+    returns
+    load64-requires-2
+    returns-2)

@@ -16,44 +16,14 @@ abbrev μ-loop : tie.MeasureT-loop
 loop-holds : tie.Need-loop-holds Inv-loop μ-loop
 loop-holds c = let a = c .before .args in passed-start (shapeOf (a .s)) (a .p .now) (a .at) (a .n) _ refl
 
-sub-load64 : tie.Need-sub-load64 Inv-loop μ-loop
-sub-load64 c = search needs
-
-mul-load64 : tie.Need-mul-load64 Inv-loop μ-loop
-mul-load64 c = search needs
-
-add-load64 : tie.Need-add-load64 Inv-loop μ-loop
-add-load64 c = search needs
-
-load64-requires : tie.Need-load64-requires Inv-loop μ-loop
-load64-requires c κs = search needs
-
 rows-for-requires : tie.Need-rows-for-requires Inv-loop μ-loop
 rows-for-requires c κs = (c .before .before .before .before .pre .0, c .before .before .loop .inv .rows)
-
-in-rows-requires : tie.Need-in-rows-requires Inv-loop μ-loop
-in-rows-requires c κs = search needs
 
 returns : tie.Need-returns Inv-loop μ-loop
 returns c =
     let a = c .before .before .before .before .before .before .before .args in
     let l = c .before .before .before .before .before .loop in
     passed-bad (shapeOf (a .s)) (a .p .now) (a .at) (a .n) (l .i) (l .marks) _ _ (l .inv) (omega arith) _ (c .before .before .before .load64 .ensures) _ _ (c .before .before .rows-for .ensures) _ (c .before .in-rows .ensures) (c .if1 .taken)
-
-mark-of-requires : tie.Need-mark-of-requires Inv-loop μ-loop
-mark-of-requires c κs = search needs
-
-mul-absent-marked : tie.Need-mul-absent-marked Inv-loop μ-loop
-mul-absent-marked c = search needs
-
-add-absent-marked : tie.Need-add-absent-marked Inv-loop μ-loop
-add-absent-marked c = search needs
-
-sub-absent-marked : tie.Need-sub-absent-marked Inv-loop μ-loop
-sub-absent-marked c = search needs
-
-array-read-absent-marked : tie.Need-array-read-absent-marked Inv-loop μ-loop
-array-read-absent-marked c = search needs
 
 absent-marked-requires : tie.Need-absent-marked-requires Inv-loop μ-loop
 absent-marked-requires c κs =
@@ -66,15 +36,6 @@ returns-2 c =
     let a = c .before .before .before .before .before .before .before .before .before .before .args in
     let l = c .before .before .before .before .before .before .before .before .loop in
     passed-twice (shapeOf (a .s)) (a .p .now) (a .at) (a .n) (l .i) (l .marks) _ _ (l .inv) (omega arith) _ (c .before .before .before .before .before .before .load64 .ensures) _ _ (c .before .before .before .before .before .rows-for .ensures) _ (c .before .before .before .before .in-rows .ensures) (c .before .before .before .if1 .left) _ (c .before .absent-marked .ensures) (c .if2 .taken)
-
-array-write-marks : tie.Need-array-write-marks Inv-loop μ-loop
-array-write-marks c = search needs
-
-sub-i : tie.Need-sub-i Inv-loop μ-loop
-sub-i c = search needs
-
-loop-less : tie.Need-loop-less Inv-loop μ-loop
-loop-less c = search needs
 
 loop-again : tie.Need-loop-again Inv-loop μ-loop
 loop-again c =
@@ -95,22 +56,22 @@ targets-fit-spec =
     Inv-loop
     μ-loop
     loop-holds
-    sub-load64
-    mul-load64
-    add-load64
-    load64-requires
+    (λ c. search needs)
+    (λ c. search needs)
+    (λ c. search needs)
+    (λ c κs. search needs)
     rows-for-requires
-    in-rows-requires
+    (λ c κs. search needs)
     returns
-    mark-of-requires
-    mul-absent-marked
-    add-absent-marked
-    sub-absent-marked
-    array-read-absent-marked
+    (λ c κs. search needs)
+    (λ c. search needs)
+    (λ c. search needs)
+    (λ c. search needs)
+    (λ c. search needs)
     absent-marked-requires
     returns-2
-    array-write-marks
-    sub-i
-    loop-less
+    (λ c. search needs)
+    (λ c. search needs)
+    (λ c. search needs)
     loop-again
     returns-3)

@@ -9,9 +9,6 @@ use Rattle.log.proofs.valid.Tie as tie
 load64-requires : tie.Need-load64-requires
 load64-requires c κs = let a = c .before in let h = log-room (a .args .s) _ (a .pre .0) _ (a .pre .1) in search needs
 
-count-requires : tie.Need-count-requires
-count-requires c κs = search needs
-
 returns : tie.Need-returns
 returns c = search (needs, valid-mark)
 
@@ -26,9 +23,6 @@ add-check-entries c = let a = c .before .before .before .before .before .before 
 
 check-entries-requires : tie.Need-check-entries-requires
 check-entries-requires c κs = let a = c .before .before .before .before .before .before in omega (arith, c .if3 .left, log-room (a .args .s) _ (a .pre .0) _ (a .pre .1))
-
-cast-if4 : tie.Need-cast-if4
-cast-if4 c = search needs
 
 returns-4 : tie.Need-returns-4
 returns-4 c = valid-check _ _ _ _ _ (c .before .before .before .before .before .before .load64 .ensures) (c .before .before .before .before .before .count .ensures .0) (c .before .before .before .before .if1 .left) _ (omega (arith, c .before .before .before .if2 .left)) (omega (arith, c .before .before .if3 .left)) (c .before .check-entries .ensures .0) (c .if4 .taken)
@@ -47,13 +41,13 @@ valid-spec =
     tie.close
     (tie.spec
     load64-requires
-    count-requires
+    (λ c κs. search needs)
     returns
     returns-2
     returns-3
     add-check-entries
     check-entries-requires
-    cast-if4
+    (λ c. search needs)
     returns-4
     add-targets-fit
     targets-fit-requires

@@ -7,32 +7,17 @@ use borrow.Author.Needs.{needs}
 use Rattle.log.proofs.zone_rows.Statement.{statement}
 use Rattle.log.proofs.zone_rows.Tie as tie
 
-zones-at-requires : tie.Need-zones-at-requires
-zones-at-requires c κs = search needs
-
 returns : tie.Need-returns
 returns c = search (needs, rows-low)
 
-size-requires : tie.Need-size-requires
-size-requires c κs = search needs
-
 returns-2 : tie.Need-returns-2
 returns-2 c = search (needs, rows-high)
-
-zone-size-requires : tie.Need-zone-size-requires
-zone-size-requires c κs = search needs
 
 div-zone-at : tie.Need-div-zone-at
 div-zone-at c = let a = c .before .before .before .before .before in omega (arith, zone-some (a .args .s) (a .args .t) (a .pre) _ _ _ (c .before .before .before .before .zones-at .ensures) (c .before .before .before .if1 .left) (c .before .before .size .ensures) (c .before .if2 .left) (c .zone-size .ensures))
 
 zone-at-requires : tie.Need-zone-at-requires
 zone-at-requires c κs = search (needs, zone-fits)
-
-cells-requires : tie.Need-cells-requires
-cells-requires c κs = search needs
-
-mul-t9 : tie.Need-mul-t9
-mul-t9 c = search needs
 
 add-t8 : tie.Need-add-t8
 add-t8 c = let a = c .before .before .before .before .before .before .before in omega (arith, size-bounds (a .args .s) (a .pre))
@@ -46,14 +31,14 @@ pub zone-rows-spec : {M : Type 1} → statement M
 zone-rows-spec =
     tie.close
     (tie.spec
-    zones-at-requires
+    (λ c κs. search needs)
     returns
-    size-requires
+    (λ c κs. search needs)
     returns-2
-    zone-size-requires
+    (λ c κs. search needs)
     div-zone-at
     zone-at-requires
-    cells-requires
-    mul-t9
+    (λ c κs. search needs)
+    (λ c. search needs)
     add-t8
     returns-3)

@@ -17,26 +17,8 @@ Inv-loop pool staging count from n sums₀ at₀ left₀ sums at left =
 abbrev μ-loop : tie.MeasureT-loop
 μ-loop pool staging count from n sums₀ at₀ left₀ sums at left = left
 
-add-if1 : tie.Need-add-if1 Inv-loop μ-loop
-add-if1 c = search needs
-
 next-target-requires : tie.Need-next-target-requires Inv-loop μ-loop
 next-target-requires c κs = omega (arith, c .before .before .pre .0 .room)
-
-add-feed : tie.Need-add-feed Inv-loop μ-loop
-add-feed c = search needs
-
-sub-feed : tie.Need-sub-feed Inv-loop μ-loop
-sub-feed c = search needs
-
-part-feed-start : tie.Need-part-feed-start Inv-loop μ-loop
-part-feed-start c = search needs
-
-part-feed-end : tie.Need-part-feed-end Inv-loop μ-loop
-part-feed-end c = search needs
-
-feed-requires : tie.Need-feed-requires Inv-loop μ-loop
-feed-requires c κs = search needs
 
 returns : tie.Need-returns Inv-loop μ-loop
 returns c = let s = c .before .before .before .before .before .before in fed-pool (s .args .n) (s .pre .0) (s .pre .1) (c .before .before .if1 .taken) (c .before .before .before .next-target .ensures) (c .feed .ensures)
@@ -49,12 +31,6 @@ staged-word-requires c κs = let s = c .before .before .before .before .before .
 
 feed-word-requires : tie.Need-feed-word-requires Inv-loop μ-loop
 feed-word-requires c κs = (c .before .before .loop .inv .2 .below, omega arith)
-
-add-at : tie.Need-add-at Inv-loop μ-loop
-add-at c = search needs
-
-loop-less : tie.Need-loop-less Inv-loop μ-loop
-loop-less c = search needs
 
 loop-again : tie.Need-loop-again Inv-loop μ-loop
 loop-again c = (omega arith, omega arith, feeding-step 8 (omega arith) (c .before .before .loop-test .taken) (c .before .before .before .loop .inv .2) (c .before .staged-word .ensures) (c .feed-word .ensures))
@@ -81,19 +57,19 @@ feed-part-spec =
     (tie.spec
     Inv-loop
     μ-loop
-    add-if1
+    (λ c. search needs)
     next-target-requires
-    add-feed
-    sub-feed
-    part-feed-start
-    part-feed-end
-    feed-requires
+    (λ c. search needs)
+    (λ c. search needs)
+    (λ c. search needs)
+    (λ c. search needs)
+    (λ c κs. search needs)
     returns
     loop-holds
     staged-word-requires
     feed-word-requires
-    add-at
-    loop-less
+    (λ c. search needs)
+    (λ c. search needs)
     loop-again
     returns-2
     staged-word-requires-2

@@ -7,17 +7,8 @@ use Rattle.heads.specs.HeadWords.{headOf}
 use Rattle.objects.proofs.object.Statement.{statement}
 use Rattle.objects.proofs.object.Tie as tie
 
-body-requires : tie.Need-body-requires
-body-requires c κs = search needs
-
 intact-requires : tie.Need-intact-requires
 intact-requires c κs = let s = c .before .before .before in (s .pre .0, s .pre .1, body-inside (headOf (s .args .h .first) (s .args .h .second)) (s .args .at) (s .pre .3) (c .body .ensures .0) (s .pre .2))
-
-cells-requires : tie.Need-cells-requires
-cells-requires c κs = search needs
-
-tag-requires : tie.Need-tag-requires
-tag-requires c κs = search needs
 
 returns : tie.Need-returns
 returns c =
@@ -34,4 +25,12 @@ returns-2 c =
     object-damaged v (s .args .at) h (c .before .intact .ensures) (c .before .before .body .ensures .0) (c .if1 .left)
 
 pub object-spec : {M : Type 1} → statement M
-object-spec = tie.close (tie.spec body-requires intact-requires cells-requires tag-requires returns returns-2)
+object-spec =
+    tie.close
+    (tie.spec
+    (λ c κs. search needs)
+    intact-requires
+    (λ c κs. search needs)
+    (λ c κs. search needs)
+    returns
+    returns-2)

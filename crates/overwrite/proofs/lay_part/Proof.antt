@@ -9,9 +9,6 @@ use borrow.Author.Needs.{needs}
 use Rattle.overwrite.proofs.lay_part.Statement.{statement}
 use Rattle.overwrite.proofs.lay_part.Tie as tie
 
-sub-rest : tie.Need-sub-rest
-sub-rest c = search needs
-
 slice-aggregate-store : tie.Need-slice-aggregate-store
 slice-aggregate-store c = sym (length-take-le _ _ (omega arith))
 
@@ -20,32 +17,20 @@ store-requires c κs =
     let a = c .before .before .before .before .before .args in
     rw (length-take-le (length (a .old .now) - a .skip) (a .new .now) (omega arith)) (omega arith)
 
-same-length : tie.Need-same-length
-same-length c = search needs
-
 returns : tie.Need-returns
 returns c =
     let a = c .before .before .before .before .before .before .before .before .args in
     c .before .before .store .ensures ∙ sets-cut (length (a .old .now) - a .skip) (a .old .now) (a .skip) (a .new .now) (omega arith)
 
-store-requires-2 : tie.Need-store-requires-2
-store-requires-2 c κs = search needs
-
-same-length-2 : tie.Need-same-length-2
-same-length-2 c = search needs
-
-returns-2 : tie.Need-returns-2
-returns-2 c = search needs
-
 pub lay-part-spec : {M : Type 1} → statement M
 lay-part-spec =
     tie.close
     (tie.spec
-    sub-rest
+    (λ c. search needs)
     slice-aggregate-store
     store-requires
-    same-length
+    (λ c. search needs)
     returns
-    store-requires-2
-    same-length-2
-    returns-2)
+    (λ c κs. search needs)
+    (λ c. search needs)
+    (λ c. search needs))

@@ -9,24 +9,6 @@ use borrow.Author.Needs.{needs}
 use Rattle.overwrite.proofs.lay_word.Statement.{statement}
 use Rattle.overwrite.proofs.lay_word.Tie as tie
 
-slice-aggregate-store64 : tie.Need-slice-aggregate-store64
-slice-aggregate-store64 c = search needs
-
-store64-requires : tie.Need-store64-requires
-store64-requires c κs = search needs
-
-slice-aggregate-lay-part : tie.Need-slice-aggregate-lay-part
-slice-aggregate-lay-part c = search needs
-
-lay-part-requires : tie.Need-lay-part-requires
-lay-part-requires c κs = search needs
-
-slice-aggregate-load64 : tie.Need-slice-aggregate-load64
-slice-aggregate-load64 c = search needs
-
-load64-requires : tie.Need-load64-requires
-load64-requires c κs = search needs
-
 returns : tie.Need-returns
 unfolding word
 returns c =
@@ -37,10 +19,10 @@ pub lay-word-spec : {M : Type 1} → statement M
 lay-word-spec =
     tie.close
     (tie.spec
-    slice-aggregate-store64
-    store64-requires
-    slice-aggregate-lay-part
-    lay-part-requires
-    slice-aggregate-load64
-    load64-requires
+    (λ c. search needs)
+    (λ c κs. search needs)
+    (λ c. search needs)
+    (λ c κs. search needs)
+    (λ c. search needs)
+    (λ c κs. search needs)
     returns)

@@ -21,46 +21,13 @@ range-fresh-requires c κs = let s = c .before .before .before in (s .pre .0 .ro
 loop-holds : tie.Need-loop-holds Inv-loop μ-loop
 loop-holds c = checking-start _ _ _ _ _
 
-add-skip : tie.Need-add-skip Inv-loop μ-loop
-add-skip c = search needs
-
-add-known-word : tie.Need-add-known-word Inv-loop μ-loop
-add-known-word c = search needs
-
-mul-known-word : tie.Need-mul-known-word Inv-loop μ-loop
-mul-known-word c = search needs
-
 known-word-requires : tie.Need-known-word-requires Inv-loop μ-loop
 known-word-requires c κs =
     let s = c .before .before .before .before .before .before in
     (s .pre .0, omega arith, omega (arith, s .pre .0 .words), λ f. fresh-within (c .before .before .range-fresh .ensures f) (c .loop-test .taken))
 
-cast-word-check : tie.Need-cast-word-check Inv-loop μ-loop
-cast-word-check c = search needs
-
-sub-word-check : tie.Need-sub-word-check Inv-loop μ-loop
-sub-word-check c = search needs
-
-sub-word-check-2 : tie.Need-sub-word-check-2 Inv-loop μ-loop
-sub-word-check-2 c = search needs
-
-part-word-check-start : tie.Need-part-word-check-start Inv-loop μ-loop
-part-word-check-start c = search needs
-
-part-word-check-end : tie.Need-part-word-check-end Inv-loop μ-loop
-part-word-check-end c = search needs
-
 word-check-requires : tie.Need-word-check-requires Inv-loop μ-loop
 word-check-requires c κs = (omega arith, rw (rest-all _ _, length-drop _ _) (omega arith))
-
-sub-i : tie.Need-sub-i Inv-loop μ-loop
-sub-i c = search needs
-
-add-i : tie.Need-add-i Inv-loop μ-loop
-add-i c = search needs
-
-loop-less : tie.Need-loop-less Inv-loop μ-loop
-loop-less c = search needs
 
 loop-again : tie.Need-loop-again Inv-loop μ-loop
 loop-again c = checking-step (c .before .before .before .before .loop .inv) (c .before .before .known-word .ensures) (c .word-check .ensures)
@@ -76,18 +43,18 @@ new-check-spec =
     μ-loop
     range-fresh-requires
     loop-holds
-    add-skip
-    add-known-word
-    mul-known-word
+    (λ c. search needs)
+    (λ c. search needs)
+    (λ c. search needs)
     known-word-requires
-    cast-word-check
-    sub-word-check
-    sub-word-check-2
-    part-word-check-start
-    part-word-check-end
+    (λ c. search needs)
+    (λ c. search needs)
+    (λ c. search needs)
+    (λ c. search needs)
+    (λ c. search needs)
     word-check-requires
-    sub-i
-    add-i
-    loop-less
+    (λ c. search needs)
+    (λ c. search needs)
+    (λ c. search needs)
     loop-again
     returns)

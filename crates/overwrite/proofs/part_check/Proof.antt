@@ -9,18 +9,6 @@ use borrow.Author.Needs.{needs}
 use Rattle.overwrite.proofs.part_check.Statement.{statement}
 use Rattle.overwrite.proofs.part_check.Tie as tie
 
-sub-rest : tie.Need-sub-rest
-sub-rest c = search needs
-
-sub-updated-range : tie.Need-sub-updated-range
-sub-updated-range c = search needs
-
-part-updated-range-start : tie.Need-part-updated-range-start
-part-updated-range-start c = search needs
-
-part-updated-range-end : tie.Need-part-updated-range-end
-part-updated-range-end c = search needs
-
 slice-aggregate-updated-range : tie.Need-slice-aggregate-updated-range
 slice-aggregate-updated-range c = sym (length-take-le _ _ (omega arith))
 
@@ -33,18 +21,6 @@ returns : tie.Need-returns
 returns c =
     let a = c .before .before .before .before .before .before .args in
     check-old (a .check) (a .left) (a .skip) (a .old .now) (a .new .now) (c .updated-range .ensures)
-
-add-end : tie.Need-add-end
-add-end c = search needs
-
-sub-updated-range-2 : tie.Need-sub-updated-range-2
-sub-updated-range-2 c = search needs
-
-part-updated-range-start-2 : tie.Need-part-updated-range-start-2
-part-updated-range-start-2 c = search needs
-
-part-updated-range-end-2 : tie.Need-part-updated-range-end-2
-part-updated-range-end-2 c = search needs
 
 updated-range-requires-2 : tie.Need-updated-range-requires-2
 updated-range-requires-2 c κs =
@@ -61,16 +37,16 @@ pub part-check-spec : {M : Type 1} → statement M
 part-check-spec =
     tie.close
     (tie.spec
-    sub-rest
-    sub-updated-range
-    part-updated-range-start
-    part-updated-range-end
+    (λ c. search needs)
+    (λ c. search needs)
+    (λ c. search needs)
+    (λ c. search needs)
     slice-aggregate-updated-range
     updated-range-requires
     returns
-    add-end
-    sub-updated-range-2
-    part-updated-range-start-2
-    part-updated-range-end-2
+    (λ c. search needs)
+    (λ c. search needs)
+    (λ c. search needs)
+    (λ c. search needs)
     updated-range-requires-2
     returns-2)

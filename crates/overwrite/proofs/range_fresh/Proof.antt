@@ -5,15 +5,6 @@ use borrow.Author.Needs.{needs}
 use Rattle.overwrite.proofs.range_fresh.Statement.{statement}
 use Rattle.overwrite.proofs.range_fresh.Tie as tie
 
-add-words : tie.Need-add-words
-add-words c = search needs
-
-add-words-2 : tie.Need-add-words-2
-add-words-2 c = search needs
-
-mul-all-fresh : tie.Need-mul-all-fresh
-mul-all-fresh c = search needs
-
 all-fresh-requires : tie.Need-all-fresh-requires
 all-fresh-requires c κs = (c .before .pre .0, omega arith, λ f. cc)
 
@@ -23,4 +14,10 @@ returns c = λ f. record { all = c .all-fresh .ensures f }
 
 pub range-fresh-spec : {M : Type 1} → statement M
 range-fresh-spec =
-    tie.close (tie.spec add-words add-words-2 mul-all-fresh all-fresh-requires returns)
+    tie.close
+    (tie.spec
+    (λ c. search needs)
+    (λ c. search needs)
+    (λ c. search needs)
+    all-fresh-requires
+    returns)

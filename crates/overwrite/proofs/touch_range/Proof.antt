@@ -22,29 +22,11 @@ range-fresh-requires c κs = let s = c .before .before .before .before in (s .pr
 loop-holds : tie.Need-loop-holds Inv-loop μ-loop
 loop-holds c = let s = c .before .before .before .before .before in (ranging-start _ (s .pre .0) (s .pre .1), λ f. fresh-start (c .range-fresh .ensures f))
 
-add-skip : tie.Need-add-skip Inv-loop μ-loop
-add-skip c = search needs
-
-add-from : tie.Need-add-from Inv-loop μ-loop
-add-from c = search needs
-
-mul-from : tie.Need-mul-from Inv-loop μ-loop
-mul-from c = search needs
-
 known-word-requires : tie.Need-known-word-requires Inv-loop μ-loop
 known-word-requires c κs =
     let s = c .before .before .before .before .before .before .before .before in
     let l = c .before .before .loop in
     (ranging-staged (s .pre .0) (l .inv .0), omega arith, omega (arith, s .pre .0 .words, s .pre .1 .inside), λ f. fresh-word (s .args .at) (l .inv .1 f) (c .before .loop-test .taken))
-
-sub-lay-word : tie.Need-sub-lay-word Inv-loop μ-loop
-sub-lay-word c = search needs
-
-part-lay-word-start : tie.Need-part-lay-word-start Inv-loop μ-loop
-part-lay-word-start c = search needs
-
-part-lay-word-end : tie.Need-part-lay-word-end Inv-loop μ-loop
-part-lay-word-end c = search needs
 
 lay-word-requires : tie.Need-lay-word-requires Inv-loop μ-loop
 lay-word-requires c κs = omega arith
@@ -54,23 +36,11 @@ touch-known-requires c κs =
     let t = c .before .before .before .before .before in
     (ranging-room (t .before .loop .inv .0) (omega arith), λ f. fresh-word (t .before .before .before .before .before .before .before .args .at) (t .before .loop .inv .1 f) (t .loop-test .taken))
 
-sub-done : tie.Need-sub-done Inv-loop μ-loop
-sub-done c = search needs
-
-add-done : tie.Need-add-done Inv-loop μ-loop
-add-done c = search needs
-
-loop-less : tie.Need-loop-less Inv-loop μ-loop
-loop-less c = search needs
-
 loop-again : tie.Need-loop-again Inv-loop μ-loop
 loop-again c =
     let t = c .before .before .before .before .before .before .before .before in
     let l = t .before .loop in
     (ranging-step (l .inv .0) (omega arith) (search needs) (c .before .before .before .before .before .before .known-word .ensures) (c .before .before .before .before .lay-word .ensures) (c .before .before .touch-known .ensures), λ f. fresh-rest (t .before .before .before .before .before .before .before .args .at) (l .inv .1 f) (t .loop-test .taken) (c .before .before .touch-known .ensures))
-
-same-length : tie.Need-same-length Inv-loop μ-loop
-same-length c = search needs
 
 returns : tie.Need-returns Inv-loop μ-loop
 returns c = ranging-end (c .before .loop .inv .0) (c .before .before .before .before .before .before .before .pre .1 .some) (omega arith)
@@ -83,18 +53,18 @@ touch-range-spec =
     μ-loop
     range-fresh-requires
     loop-holds
-    add-skip
-    add-from
-    mul-from
+    (λ c. search needs)
+    (λ c. search needs)
+    (λ c. search needs)
     known-word-requires
-    sub-lay-word
-    part-lay-word-start
-    part-lay-word-end
+    (λ c. search needs)
+    (λ c. search needs)
+    (λ c. search needs)
     lay-word-requires
     touch-known-requires
-    sub-done
-    add-done
-    loop-less
+    (λ c. search needs)
+    (λ c. search needs)
+    (λ c. search needs)
     loop-again
-    same-length
+    (λ c. search needs)
     returns)

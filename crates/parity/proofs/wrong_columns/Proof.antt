@@ -27,17 +27,8 @@ loop-holds : tie.Need-loop-holds Inv-loop μ-loop
 unfolding sumTo
 loop-holds c = (search needs, refl, refl, search needs)
 
-wrong-in-zone-requires : tie.Need-wrong-in-zone-requires Inv-loop μ-loop
-wrong-in-zone-requires c κs = search needs
-
 add-n : tie.Need-add-n Inv-loop μ-loop
 add-n c = let a = c .before .before .before .before in omega (arith, bounds (a .args .s) (a .pre .0))
-
-add-z : tie.Need-add-z Inv-loop μ-loop
-add-z c = search needs
-
-loop-less : tie.Need-loop-less Inv-loop μ-loop
-loop-less c = search needs
 
 loop-again : tie.Need-loop-again Inv-loop μ-loop
 loop-again c =
@@ -59,9 +50,9 @@ wrong-columns-spec =
     Inv-loop
     μ-loop
     loop-holds
-    wrong-in-zone-requires
+    (λ c κs. search needs)
     add-n
-    add-z
-    loop-less
+    (λ c. search needs)
+    (λ c. search needs)
     loop-again
     returns)

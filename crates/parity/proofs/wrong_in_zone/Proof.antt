@@ -18,15 +18,9 @@ Inv-loop s pool z stride n₀ c₀ c-end n c = (c ≤ s .cols) × (c-end ≡ s .
 abbrev μ-loop : tie.MeasureT-loop
 μ-loop s pool z stride n₀ c₀ c-end n c = s .cols - c
 
-row-size-requires : tie.Need-row-size-requires Inv-loop μ-loop
-row-size-requires c κs = search needs
-
 loop-holds : tie.Need-loop-holds Inv-loop μ-loop
 unfolding countTo
 loop-holds c = (search needs, refl, refl, search needs)
-
-column-at-requires : tie.Need-column-at-requires Inv-loop μ-loop
-column-at-requires c κs = search needs
 
 add-page-right : tie.Need-add-page-right Inv-loop μ-loop
 add-page-right c = let a = c .before .before .before .before .before .before in omega (arith, bounds (a .args .s) (a .pre .0))
@@ -36,15 +30,6 @@ page-right-requires c κs =
     let a = c .before .before .before .before .before .before in
     let f = column-fits (shapeOf (a .args .s)) (shape-good (a .args .s) (a .pre .0)) (a .args .z) (c .before .before .before .loop .c) (a .pre .1) (omega arith)
     (a .args .pool .now) _ _ (c .before .column-at .ensures) (c .before .before .before .before .row-size .ensures) (a .pre .2) in (omega arith, page-most (a .args .s) (a .pre .0))
-
-add-n : tie.Need-add-n Inv-loop μ-loop
-add-n c = search needs
-
-add-c : tie.Need-add-c Inv-loop μ-loop
-add-c c = search needs
-
-loop-less : tie.Need-loop-less Inv-loop μ-loop
-loop-less c = search needs
 
 loop-again : tie.Need-loop-again Inv-loop μ-loop
 loop-again c =
@@ -72,13 +57,13 @@ wrong-in-zone-spec =
     (tie.spec
     Inv-loop
     μ-loop
-    row-size-requires
+    (λ c κs. search needs)
     loop-holds
-    column-at-requires
+    (λ c κs. search needs)
     add-page-right
     page-right-requires
-    add-n
-    add-c
-    loop-less
+    (λ c. search needs)
+    (λ c. search needs)
+    (λ c. search needs)
     loop-again
     returns)

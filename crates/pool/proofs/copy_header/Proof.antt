@@ -17,32 +17,11 @@ room c = let b = size-bounds (c .args .s) (c .pre .range) in omega (arith, c .pr
 mul-end : tie.Need-mul-end
 mul-end c = omega (arith, bounds (c .before .args .s) (c .before .pre .range))
 
-sub-valid : tie.Need-sub-valid
-sub-valid c = search needs
-
-part-valid-start : tie.Need-part-valid-start
-part-valid-start c = search needs
-
 part-valid-end : tie.Need-part-valid-end
 part-valid-end c = omega (arith, room (c .before .before))
 
-valid-requires : tie.Need-valid-requires
-valid-requires c κs = search needs
-
-sub-valid-2 : tie.Need-sub-valid-2
-sub-valid-2 c = search needs
-
-part-valid-start-2 : tie.Need-part-valid-start-2
-part-valid-start-2 c = search needs
-
 part-valid-end-2 : tie.Need-part-valid-end-2
 part-valid-end-2 c = omega (arith, room (c .before .before .before .before .before .before))
-
-valid-requires-2 : tie.Need-valid-requires-2
-valid-requires-2 c κs = search needs
-
-same-length : tie.Need-same-length
-same-length c = search needs
 
 returns : tie.Need-returns
 returns c =
@@ -52,9 +31,6 @@ returns c =
 copy-requires : tie.Need-copy-requires
 copy-requires c κs = let r = room (c .before .before .before .before .before .before .before .before .before .before) in record { from-le = omega arith; to-le = omega arith; apart = inl (omega arith) }
 
-same-length-2 : tie.Need-same-length-2
-same-length-2 c = search needs
-
 returns-2 : tie.Need-returns-2
 returns-2 c =
     let a = c .before .before .before .before .before .before .before .before .before .before .before .before .before in
@@ -62,9 +38,6 @@ returns-2 c =
 
 copy-requires-2 : tie.Need-copy-requires-2
 copy-requires-2 c κs = let r = room (c .before .before .before .before .before .before) in record { from-le = omega arith; to-le = omega arith; apart = inr (omega arith) }
-
-same-length-3 : tie.Need-same-length-3
-same-length-3 c = search needs
 
 returns-3 : tie.Need-returns-3
 returns-3 c =
@@ -76,19 +49,19 @@ copy-header-spec =
     tie.close
     (tie.spec
     mul-end
-    sub-valid
-    part-valid-start
+    (λ c. search needs)
+    (λ c. search needs)
     part-valid-end
-    valid-requires
-    sub-valid-2
-    part-valid-start-2
+    (λ c κs. search needs)
+    (λ c. search needs)
+    (λ c. search needs)
     part-valid-end-2
-    valid-requires-2
-    same-length
+    (λ c κs. search needs)
+    (λ c. search needs)
     returns
     copy-requires
-    same-length-2
+    (λ c. search needs)
     returns-2
     copy-requires-2
-    same-length-3
+    (λ c. search needs)
     returns-3)

@@ -8,9 +8,6 @@ use borrow.Author.Needs.{needs}
 use Rattle.pool.proofs.fill.Statement.{statement}
 use Rattle.pool.proofs.fill.Tie as tie
 
-zero-requires : tie.Need-zero-requires
-zero-requires c κs = search needs
-
 put-header-requires : tie.Need-put-header-requires
 put-header-requires c κs =
     let s = c .before .before .before .before .before .before in
@@ -21,12 +18,6 @@ put-header-requires-2 c κs =
     let s = c .before .before .before .before .before .before .before .before .before .before in
     header-fits (s .args .s) (s .pre .0) _ _ (search needs) (omega arith)
 
-fill-zones-requires : tie.Need-fill-zones-requires
-fill-zones-requires c κs = search needs
-
-same-length : tie.Need-same-length
-same-length c = search needs
-
 returns : tie.Need-returns
 returns c = let s = c .before .before .before .before .before .before .before .before .before .before .before .before .before .before .before .before .before in fresh-stored (shapeOf (s .args .s)) (shape-good (s .args .s) (s .pre .0)) (s .args .id) (s .args .pool .now) _ _ _ _ (s .pre .0 .paged) (s .pre .1) (c .before .before .before .before .before .before .before .before .before .before .before .before .before .before .zero .ensures) (c .before .before .before .before .before .before .before .before .before .before .put-header .ensures) (c .before .before .before .before .before .before .put-header2 .ensures) (c .before .before .fill-zones .ensures)
 
@@ -34,9 +25,9 @@ pub fill-spec : {M : Type 1} → statement M
 fill-spec =
     tie.close
     (tie.spec
-    zero-requires
+    (λ c κs. search needs)
     put-header-requires
     put-header-requires-2
-    fill-zones-requires
-    same-length
+    (λ c κs. search needs)
+    (λ c. search needs)
     returns)

@@ -15,17 +15,8 @@ Inv-loop pool₀ s zones cells head z₀ pool z = Filling (shapeOf s) pool₀ po
 abbrev μ-loop : tie.MeasureT-loop
 μ-loop pool₀ s zones cells head z₀ pool z = zones - z
 
-cells-requires : tie.Need-cells-requires Inv-loop μ-loop
-cells-requires c κs = search needs
-
-free-head-requires : tie.Need-free-head-requires Inv-loop μ-loop
-free-head-requires c κs = search needs
-
 loop-holds : tie.Need-loop-holds Inv-loop μ-loop
 loop-holds c = let s = c .before .before .before in filling-start (shapeOf (s .args .s)) (s .args .pool .now) (s .pre .1)
-
-zone-at-requires : tie.Need-zone-at-requires Inv-loop μ-loop
-zone-at-requires c κs = search needs
 
 -- both heads lie in the pool
 room : (c : tie.After-zone-at Inv-loop μ-loop) → c .zone-at .result + 64 * c .before .before .before .before .cells .result + 16 ≤ length (c .before .before .loop .pool)
@@ -37,29 +28,17 @@ room c =
 put-head-requires : tie.Need-put-head-requires Inv-loop μ-loop
 put-head-requires c κs = omega (arith, room (c .before))
 
-mul-put-head : tie.Need-mul-put-head Inv-loop μ-loop
-mul-put-head c = search needs
-
 add-put-head : tie.Need-add-put-head Inv-loop μ-loop
 add-put-head c = omega (arith, room (c .before .before .before .before .before))
 
 put-head-requires-2 : tie.Need-put-head-requires-2 Inv-loop μ-loop
 put-head-requires-2 c κs = omega (arith, room (c .before .before .before .before .before), c .before .before .before .put-head .kept .0)
 
-add-z : tie.Need-add-z Inv-loop μ-loop
-add-z c = search needs
-
-loop-less : tie.Need-loop-less Inv-loop μ-loop
-loop-less c = search needs
-
 loop-again : tie.Need-loop-again Inv-loop μ-loop
 loop-again c =
     let z = c .before .before .before .before .before .before .before .before in
     filling-step (z .before .before .loop .inv) (search needs) (z .zone-at .ensures .0) (z .before .before .before .before .cells .ensures .0)
     (z .before .before .before .free-head .ensures) (c .before .before .before .before .before .before .put-head .ensures) (c .before .before .put-head2 .ensures)
-
-same-length : tie.Need-same-length Inv-loop μ-loop
-same-length c = search needs
 
 returns : tie.Need-returns Inv-loop μ-loop
 returns c = filling-end (c .before .loop .inv) (search needs)
@@ -70,16 +49,16 @@ fill-zones-spec =
     (tie.spec
     Inv-loop
     μ-loop
-    cells-requires
-    free-head-requires
+    (λ c κs. search needs)
+    (λ c κs. search needs)
     loop-holds
-    zone-at-requires
+    (λ c κs. search needs)
     put-head-requires
-    mul-put-head
+    (λ c. search needs)
     add-put-head
     put-head-requires-2
-    add-z
-    loop-less
+    (λ c. search needs)
+    (λ c. search needs)
     loop-again
-    same-length
+    (λ c. search needs)
     returns)

@@ -6,15 +6,6 @@ use borrow.Author.Needs.{needs}
 use Rattle.pool.proofs.format.Statement.{statement}
 use Rattle.pool.proofs.format.Tie as tie
 
-new-requires : tie.Need-new-requires
-new-requires c κs = search needs
-
-enum-told : tie.Need-enum-told
-enum-told c = search needs
-
-enum-known-s : tie.Need-enum-known-s
-enum-known-s c = search needs
-
 returns : tie.Need-returns
 returns c = format-id _ _ _ _ _ (c .if1 .taken)
 
@@ -30,9 +21,6 @@ fill-requires c κs = let n = c .before .before .before .before .before .before 
 returns-3 : tie.Need-returns-3
 returns-3 c = let n = c .before .before .new in format-range _ _ _ _ _ (n .result) (n .ensures .0) (c .enum-told .given .1)
 
-same-length : tie.Need-same-length
-same-length c = search needs
-
 returns-4 : tie.Need-returns-4
 returns-4 c = let n = c .before .before .before .before .before .before .before .before .before .before .new in format-taken _ _ _ _ _ (n .result) (n .ensures .0) _ (c .before .before .before .before .before .before .before .before .s .given .1) _ (c .before .before .before .before .before .before .if1 .left) (c .before .before .before .before .before .size .ensures) _ (c .before .before .before .before .if2 .left) (c .before .before .fill .ensures)
 
@@ -40,13 +28,13 @@ pub format-spec : {M : Type 1} → statement M
 format-spec =
     tie.close
     (tie.spec
-    new-requires
-    enum-told
-    enum-known-s
+    (λ c κs. search needs)
+    (λ c. search needs)
+    (λ c. search needs)
     returns
     size-requires
     returns-2
     fill-requires
     returns-3
-    same-length
+    (λ c. search needs)
     returns-4)

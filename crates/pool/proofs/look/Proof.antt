@@ -8,32 +8,8 @@ use borrow.Author.Needs.{needs}
 use Rattle.pool.proofs.look.Statement.{statement}
 use Rattle.pool.proofs.look.Tie as tie
 
-look-for-requires : tie.Need-look-for-requires
-look-for-requires c κs = search needs
-
-enum-told : tie.Need-enum-told
-enum-told c = search needs
-
-sub-result : tie.Need-sub-result
-sub-result c = search needs
-
-part-result-start : tie.Need-part-result-start
-part-result-start c = search needs
-
-part-result-end : tie.Need-part-result-end
-part-result-end c = search needs
-
-enum-known-at : tie.Need-enum-known-at
-enum-known-at c = search needs
-
 add-result : tie.Need-add-result
 add-result c = omega (arith, look-room _ (c .before .before .before .look-for .result) _ _ (c .before .before .before .look-for .ensures .1) (c .before .at .given .1))
-
-sub-result-2 : tie.Need-sub-result-2
-sub-result-2 c = search needs
-
-part-result-start-2 : tie.Need-part-result-start-2
-part-result-start-2 c = search needs
 
 part-result-end-2 : tie.Need-part-result-end-2
 part-result-end-2 c = omega (arith, look-room _ (c .before .before .before .look-for .result) _ _ (c .before .before .before .look-for .ensures .1) (c .before .at .given .1))
@@ -57,15 +33,15 @@ pub look-spec : {M : Type 1} → statement M
 look-spec =
     tie.close
     (tie.spec
-    look-for-requires
-    enum-told
-    sub-result
-    part-result-start
-    part-result-end
-    enum-known-at
+    (λ c κs. search needs)
+    (λ c. search needs)
+    (λ c. search needs)
+    (λ c. search needs)
+    (λ c. search needs)
+    (λ c. search needs)
     add-result
-    sub-result-2
-    part-result-start-2
+    (λ c. search needs)
+    (λ c. search needs)
     part-result-end-2
     returns
     returns-2)

@@ -7,15 +7,6 @@ use borrow.Author.Needs.{needs}
 use Rattle.pool.proofs.look_for.Statement.{statement}
 use Rattle.pool.proofs.look_for.Tie as tie
 
-quiet-requires : tie.Need-quiet-requires
-quiet-requires c κs = search needs
-
-enum-known-n : tie.Need-enum-known-n
-enum-known-n c = search needs
-
-enum-known-s : tie.Need-enum-known-s
-enum-known-s c = search needs
-
 body-at-requires : tie.Need-body-at-requires
 body-at-requires c κs = read-shaped _ (sym (c .before .before .before .quiet .ensures) ∙ c .before .s .given .1)
 
@@ -28,4 +19,10 @@ returns-2 c = (look-found _ (sym (c .before .before .before .before .quiet .ensu
 pub look-for-spec : {M : Type 1} → statement M
 look-for-spec =
     tie.close
-    (tie.spec quiet-requires enum-known-n enum-known-s body-at-requires returns returns-2)
+    (tie.spec
+    (λ c κs. search needs)
+    (λ c. search needs)
+    (λ c. search needs)
+    body-at-requires
+    returns
+    returns-2)

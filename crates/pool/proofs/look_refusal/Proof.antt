@@ -4,15 +4,6 @@ use borrow.Author.Needs.{needs}
 use Rattle.pool.proofs.look_refusal.Statement.{statement}
 use Rattle.pool.proofs.look_refusal.Tie as tie
 
-look-for-requires : tie.Need-look-for-requires
-look-for-requires c κs = search needs
-
-enum-known-n : tie.Need-enum-known-n
-enum-known-n c = search needs
-
-enum-told : tie.Need-enum-told
-enum-told c = search needs
-
 returns : tie.Need-returns
 returns c = look-number _ _ (c .before .before .before .look-for .result) (c .before .before .before .look-for .ensures .0) _ (c .before .n .given .1)
 
@@ -20,4 +11,11 @@ returns-2 : tie.Need-returns-2
 returns-2 c = look-zero _ _ (c .before .before .look-for .result) (c .before .before .look-for .ensures .0) _ _ (c .enum-told .given .1)
 
 pub look-refusal-spec : {M : Type 1} → statement M
-look-refusal-spec = tie.close (tie.spec look-for-requires enum-known-n enum-told returns returns-2)
+look-refusal-spec =
+    tie.close
+    (tie.spec
+    (λ c κs. search needs)
+    (λ c. search needs)
+    (λ c. search needs)
+    returns
+    returns-2)

@@ -12,15 +12,6 @@ use borrow.Author.Needs.{needs}
 use Rattle.pool.proofs.repair.Statement.{statement}
 use Rattle.pool.proofs.repair.Tie as tie
 
-quiet-requires : tie.Need-quiet-requires
-quiet-requires c κs = search needs
-
-enum-known-n : tie.Need-enum-known-n
-enum-known-n c = search needs
-
-enum-known-s : tie.Need-enum-known-s
-enum-known-s c = search needs
-
 opens : (c : tie.After-s)
     → let p = c .before .before .before .before .before .before .args .pool .now in answer (first (readTests p)) (shapeIn p) ≡ Good (c .s .given .0 .0)
 opens c = sym (c .before .before .quiet .ensures) ∙ c .s .given .1
@@ -28,28 +19,16 @@ opens c = sym (c .before .before .quiet .ensures) ∙ c .s .given .1
 mul-if1 : tie.Need-mul-if1
 mul-if1 c = omega (arith, columns-small _ (opens (c .before .before)))
 
-same-length : tie.Need-same-length
-same-length c = search needs
-
 returns : tie.Need-returns
 returns c = repair-length _ _ (opens (c .before .before .before)) (c .if1 .taken)
 
 any-above-requires : tie.Need-any-above-requires
 any-above-requires c κs = read-shaped _ (opens (c .before .before .before)) .range
 
-same-length-2 : tie.Need-same-length-2
-same-length-2 c = search needs
-
 returns-2 : tie.Need-returns-2
 returns-2 c =
     let l = c .before .before in
     repair-above _ _ (opens (l .before .before .before)) _ (l .if1 .left) (c .before .any-above .ensures) (c .if2 .taken)
-
-any-two-requires : tie.Need-any-two-requires
-any-two-requires c κs = search needs
-
-same-length-3 : tie.Need-same-length-3
-same-length-3 c = search needs
 
 returns-3 : tie.Need-returns-3
 returns-3 c =
@@ -69,14 +48,8 @@ tested c =
 repair-pages-requires : tie.Need-repair-pages-requires
 repair-pages-requires c κs = let t = tested c in let g = read-shaped _ (t .opens) in (g .range, g .size, t .masks, t .above, t .two)
 
-same-length-4 : tie.Need-same-length-4
-same-length-4 c = search needs
-
 returns-4 : tie.Need-returns-4
 returns-4 c = repair-refused _ _ _ (sym (c .before .before .before .quiet .ensures) ∙ c .before .n .given .1)
-
-same-length-5 : tie.Need-same-length-5
-same-length-5 c = search needs
 
 returns-5 : tie.Need-returns-5
 returns-5 c = repair-taken (tested (c .before .before .before)) (c .before .before .repair-pages .ensures)
@@ -85,20 +58,20 @@ pub repair-spec : {M : Type 1} → statement M
 repair-spec =
     tie.close
     (tie.spec
-    quiet-requires
-    enum-known-n
-    enum-known-s
+    (λ c κs. search needs)
+    (λ c. search needs)
+    (λ c. search needs)
     mul-if1
-    same-length
+    (λ c. search needs)
     returns
     any-above-requires
-    same-length-2
+    (λ c. search needs)
     returns-2
-    any-two-requires
-    same-length-3
+    (λ c κs. search needs)
+    (λ c. search needs)
     returns-3
     repair-pages-requires
-    same-length-4
+    (λ c. search needs)
     returns-4
-    same-length-5
+    (λ c. search needs)
     returns-5)

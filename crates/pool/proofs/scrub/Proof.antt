@@ -6,15 +6,6 @@ use borrow.Author.Needs.{needs}
 use Rattle.pool.proofs.scrub.Statement.{statement}
 use Rattle.pool.proofs.scrub.Tie as tie
 
-quiet-requires : tie.Need-quiet-requires
-quiet-requires c κs = search needs
-
-enum-known-n : tie.Need-enum-known-n
-enum-known-n c = search needs
-
-enum-known-s : tie.Need-enum-known-s
-enum-known-s c = search needs
-
 count-pool-requires : tie.Need-count-pool-requires
 count-pool-requires c κs = read-shaped _ (sym (c .before .before .before .quiet .ensures) ∙ c .before .s .given .1)
 
@@ -27,4 +18,10 @@ returns-2 c = scrub-counted _ (sym (c .before .before .before .before .quiet .en
 pub scrub-spec : {M : Type 1} → statement M
 scrub-spec =
     tie.close
-    (tie.spec quiet-requires enum-known-n enum-known-s count-pool-requires returns returns-2)
+    (tie.spec
+    (λ c κs. search needs)
+    (λ c. search needs)
+    (λ c. search needs)
+    count-pool-requires
+    returns
+    returns-2)

@@ -7,15 +7,6 @@ use borrow.Author.Needs.{needs}
 use Rattle.record.proofs.judge.Statement.{statement}
 use Rattle.record.proofs.judge.Tie as tie
 
-open-requires : tie.Need-open-requires
-open-requires c κs = search needs
-
-enum-known-n : tie.Need-enum-known-n
-enum-known-n c = search needs
-
-enum-known-s : tie.Need-enum-known-s
-enum-known-s c = search needs
-
 returns : tie.Need-returns
 returns c = judge-short _ (sym (c .before .before .before .before .«open» .ensures) ∙ c .before .before .s .given .1) (omega (arith, c .if1 .taken))
 
@@ -35,9 +26,9 @@ pub judge-spec : {M : Type 1} → statement M
 judge-spec =
     tie.close
     (tie.spec
-    open-requires
-    enum-known-n
-    enum-known-s
+    (λ c κs. search needs)
+    (λ c. search needs)
+    (λ c. search needs)
     returns
     possible-requires
     returns-2

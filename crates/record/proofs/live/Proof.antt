@@ -4,15 +4,6 @@ use borrow.Author.Needs.{needs}
 use Rattle.record.proofs.live.Statement.{statement}
 use Rattle.record.proofs.live.Tie as tie
 
-enum-told : tie.Need-enum-told
-enum-told c = search needs
-
-enum-told-2 : tie.Need-enum-told-2
-enum-told-2 c = search needs
-
-enum-told-3 : tie.Need-enum-told-3
-enum-told-3 c = search needs
-
 returns : tie.Need-returns
 returns c = live-open _ (c .enum-told .given .1)
 
@@ -23,4 +14,12 @@ returns-3 : tie.Need-returns-3
 returns-3 c = live-closed _ (c .enum-told3 .given .1)
 
 pub live-spec : {M : Type 1} → statement M
-live-spec = tie.close (tie.spec enum-told enum-told-2 enum-told-3 returns returns-2 returns-3)
+live-spec =
+    tie.close
+    (tie.spec
+    (λ c. search needs)
+    (λ c. search needs)
+    (λ c. search needs)
+    returns
+    returns-2
+    returns-3)

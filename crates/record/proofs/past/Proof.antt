@@ -4,18 +4,6 @@ use borrow.Author.Needs.{needs}
 use Rattle.record.proofs.past.Statement.{statement}
 use Rattle.record.proofs.past.Tie as tie
 
-enum-known-phase : tie.Need-enum-known-phase
-enum-known-phase c = search needs
-
-steps-requires : tie.Need-steps-requires
-steps-requires c κs = search needs
-
-enum-told : tie.Need-enum-told
-enum-told c = search needs
-
-enum-told-2 : tie.Need-enum-told-2
-enum-told-2 c = search needs
-
 returns : tie.Need-returns
 returns c = past-committing _ _ (c .before .before .phase .given .1) (c .steps .ensures)
 
@@ -28,4 +16,11 @@ returns-3 c = past-closed _ _ (c .enum-told2 .given .1)
 pub past-spec : {M : Type 1} → statement M
 past-spec =
     tie.close
-    (tie.spec enum-known-phase steps-requires enum-told enum-told-2 returns returns-2 returns-3)
+    (tie.spec
+    (λ c. search needs)
+    (λ c κs. search needs)
+    (λ c. search needs)
+    (λ c. search needs)
+    returns
+    returns-2
+    returns-3)

@@ -14,11 +14,15 @@ past-requires c κs = omega (arith, c .if1 .left)
 returns-2 : tie.Need-returns-2
 returns-2 c = impossible-past _ _ _ (c .before .before .if1 .left) (c .before .past .ensures) (c .if2 .taken)
 
-targets-fit-requires : tie.Need-targets-fit-requires
-targets-fit-requires c κs = search needs
-
 returns-3 : tie.Need-returns-3
 returns-3 c = possible-fits _ _ _ (c .before .before .before .if1 .left) (c .before .before .past .ensures) (c .before .if2 .left) (c .targets-fit .ensures)
 
 pub possible-spec : {M : Type 1} → statement M
-possible-spec = tie.close (tie.spec returns past-requires returns-2 targets-fit-requires returns-3)
+possible-spec =
+    tie.close
+    (tie.spec
+    returns
+    past-requires
+    returns-2
+    (λ c κs. search needs)
+    returns-3)

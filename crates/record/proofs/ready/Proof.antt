@@ -6,18 +6,6 @@ use borrow.Author.Needs.{needs}
 use Rattle.record.proofs.ready.Statement.{statement}
 use Rattle.record.proofs.ready.Tie as tie
 
-judge-requires : tie.Need-judge-requires
-judge-requires c κs = search needs
-
-enum-known-n : tie.Need-enum-known-n
-enum-known-n c = search needs
-
-enum-known-s : tie.Need-enum-known-s
-enum-known-s c = search needs
-
-live-requires : tie.Need-live-requires
-live-requires c κs = search needs
-
 returns : tie.Need-returns
 returns c = ready-closed _ (sym (c .before .before .before .before .before .judge .ensures) ∙ c .before .before .before .s .given .1) (c .before .live .ensures) (not-true (c .before .live .result) (c .if1 .taken))
 
@@ -37,10 +25,10 @@ pub ready-spec : {M : Type 1} → statement M
 ready-spec =
     tie.close
     (tie.spec
-    judge-requires
-    enum-known-n
-    enum-known-s
-    live-requires
+    (λ c κs. search needs)
+    (λ c. search needs)
+    (λ c. search needs)
+    (λ c κs. search needs)
     returns
     seals-zero-requires
     returns-2

@@ -5,24 +5,6 @@ use borrow.Author.Needs.{needs}
 use Rattle.recovery.proofs.advance.Statement.{statement}
 use Rattle.recovery.proofs.advance.Tie as tie
 
-enum-told : tie.Need-enum-told
-enum-told c = search needs
-
-many-requires : tie.Need-many-requires
-many-requires c κs = search needs
-
-enum-known-phase : tie.Need-enum-known-phase
-enum-known-phase c = search needs
-
-next-step-requires : tie.Need-next-step-requires
-next-step-requires c κs = search needs
-
-enum-told-2 : tie.Need-enum-told-2
-enum-told-2 c = search needs
-
-enum-known-action : tie.Need-enum-known-action
-enum-known-action c = search needs
-
 apply-requires : tie.Need-apply-requires
 apply-requires c κs = (next-made (c .before .before .before .before .before .before .before .before .before .before .args .s) _ _ _ _ (c .before .before .before .before .next-step .ensures) (c .before .before .action .given .1)) .computed .inside
 
@@ -30,9 +12,6 @@ add-told : tie.Need-add-told
 add-told c =
     let m = next-made (c .before .before .before .before .before .before .before .before .before .before .before .before .before .args .s) _ _ _ _ (c .before .before .before .before .before .before .before .next-step .ensures) (c .before .before .before .before .before .action .given .1) in
     omega arith
-
-told-requires : tie.Need-told-requires
-told-requires c κs = search needs
 
 returns : tie.Need-returns
 returns c =
@@ -44,16 +23,10 @@ returns-2 c =
     let a = c .before .before .before .before .before .args in
     advance-finished (a .s) _ (a .recovery) _ (c .before .before .enum-told .given .1) (c .before .many .ensures) (c .if1 .left)
 
-same-length : tie.Need-same-length
-same-length c = search needs
-
 returns-3 : tie.Need-returns-3
 returns-3 c =
     let a = c .before .before .before .before .before .before .before .before .args in
     advance-impossible (a .s) _ (a .recovery) _ (c .before .before .before .before .before .phase .given .1) (next-none (a .s) _ _ _ _ (c .before .before .next-step .ensures) (c .enum-told2 .given .1))
-
-same-length-2 : tie.Need-same-length-2
-same-length-2 c = search needs
 
 returns-4 : tie.Need-returns-4
 returns-4 c =
@@ -65,18 +38,18 @@ pub advance-spec : {M : Type 1} → statement M
 advance-spec =
     tie.close
     (tie.spec
-    enum-told
-    many-requires
-    enum-known-phase
-    next-step-requires
-    enum-told-2
-    enum-known-action
+    (λ c. search needs)
+    (λ c κs. search needs)
+    (λ c. search needs)
+    (λ c κs. search needs)
+    (λ c. search needs)
+    (λ c. search needs)
     apply-requires
     add-told
-    told-requires
+    (λ c κs. search needs)
     returns
     returns-2
-    same-length
+    (λ c. search needs)
     returns-3
-    same-length-2
+    (λ c. search needs)
     returns-4)

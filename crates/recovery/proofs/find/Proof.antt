@@ -6,12 +6,6 @@ use borrow.Author.Needs.{needs}
 use Rattle.recovery.proofs.find.Statement.{statement}
 use Rattle.recovery.proofs.find.Tie as tie
 
-log-a-requires : tie.Need-log-a-requires
-log-a-requires c κs = search needs
-
-log-b-requires : tie.Need-log-b-requires
-log-b-requires c κs = search needs
-
 load64-requires : tie.Need-load64-requires
 load64-requires c κs = let a = c .before .before .before in omega (arith, log-room (a .args .s) _ (a .pre) _ (at-log-a (c .before .log-a .ensures)))
 
@@ -21,17 +15,11 @@ load64-requires-2 c κs = let a = c .before .before .before .before in omega (ar
 valid-requires : tie.Need-valid-requires
 valid-requires c κs = search (needs, at-log-a, at-log-b)
 
-count-requires : tie.Need-count-requires
-count-requires c κs = search needs
-
 returns : tie.Need-returns
 returns c = search (needs, find-a)
 
 valid-requires-2 : tie.Need-valid-requires-2
 valid-requires-2 c κs = search (needs, at-log-a, at-log-b)
-
-count-requires-2 : tie.Need-count-requires-2
-count-requires-2 c κs = search needs
 
 returns-2 : tie.Need-returns-2
 returns-2 c = search (needs, find-b)
@@ -52,15 +40,15 @@ pub find-spec : {M : Type 1} → statement M
 find-spec =
     tie.close
     (tie.spec
-    log-a-requires
-    log-b-requires
+    (λ c κs. search needs)
+    (λ c κs. search needs)
     load64-requires
     load64-requires-2
     valid-requires
-    count-requires
+    (λ c κs. search needs)
     returns
     valid-requires-2
-    count-requires-2
+    (λ c κs. search needs)
     returns-2
     returns-3
     returns-4

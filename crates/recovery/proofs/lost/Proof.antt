@@ -6,23 +6,11 @@ use borrow.Author.Needs.{needs}
 use Rattle.recovery.proofs.lost.Statement.{statement}
 use Rattle.recovery.proofs.lost.Tie as tie
 
-mul-if1 : tie.Need-mul-if1
-mul-if1 c = search needs
-
-add-if1 : tie.Need-add-if1
-add-if1 c = search needs
-
 returns : tie.Need-returns
 returns c = search (needs, lost-past)
 
-valid-requires : tie.Need-valid-requires
-valid-requires c κs = search needs
-
 load64-requires : tie.Need-load64-requires
 load64-requires c κs = let a = c .before .before .before .before in omega (arith, log-room (a .args .s) _ (a .pre .0) _ (a .pre .1))
-
-count-requires : tie.Need-count-requires
-count-requires c κs = search needs
 
 returns-2 : tie.Need-returns-2
 returns-2 c = search (needs, lost-count)
@@ -34,11 +22,11 @@ pub lost-spec : {M : Type 1} → statement M
 lost-spec =
     tie.close
     (tie.spec
-    mul-if1
-    add-if1
+    (λ c. search needs)
+    (λ c. search needs)
     returns
-    valid-requires
+    (λ c κs. search needs)
     load64-requires
-    count-requires
+    (λ c κs. search needs)
     returns-2
     returns-3)

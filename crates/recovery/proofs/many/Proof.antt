@@ -4,21 +4,6 @@ use borrow.Author.Needs.{needs}
 use Rattle.recovery.proofs.many.Statement.{statement}
 use Rattle.recovery.proofs.many.Tie as tie
 
-enum-known-work : tie.Need-enum-known-work
-enum-known-work c = search needs
-
-enum-known-work-2 : tie.Need-enum-known-work-2
-enum-known-work-2 c = search needs
-
-enum-told : tie.Need-enum-told
-enum-told c = search needs
-
-enum-told-2 : tie.Need-enum-told-2
-enum-told-2 c = search needs
-
-enum-told-3 : tie.Need-enum-told-3
-enum-told-3 c = search needs
-
 returns : tie.Need-returns
 unfolding countAbove
 returns c = rw (c .before .work .given .1)
@@ -43,11 +28,11 @@ pub many-spec : {M : Type 1} → statement M
 many-spec =
     tie.close
     (tie.spec
-    enum-known-work
-    enum-known-work-2
-    enum-told
-    enum-told-2
-    enum-told-3
+    (λ c. search needs)
+    (λ c. search needs)
+    (λ c. search needs)
+    (λ c. search needs)
+    (λ c. search needs)
     returns
     returns-2
     returns-3

@@ -9,40 +9,16 @@ use borrow.Author.Needs.{needs}
 use Rattle.recovery.proofs.next_step.Statement.{statement}
 use Rattle.recovery.proofs.next_step.Tie as tie
 
-enum-known-work : tie.Need-enum-known-work
-enum-known-work c = search needs
-
-log-a-requires : tie.Need-log-a-requires
-log-a-requires c κs = search needs
-
 replay-step-requires : tie.Need-replay-step-requires
 replay-step-requires c κs = search (needs, at-log-a)
 
-enum-known-work-2 : tie.Need-enum-known-work-2
-enum-known-work-2 c = search needs
-
-log-b-requires : tie.Need-log-b-requires
-log-b-requires c κs = search needs
-
 replay-step-requires-2 : tie.Need-replay-step-requires-2
 replay-step-requires-2 c κs = search (needs, at-log-b)
-
-enum-told : tie.Need-enum-told
-enum-told c = search needs
 
 returns : tie.Need-returns
 returns c =
     let a = c .before .before .before .before .args in
     next-of (a .s) (a .pool .now) (a .k) Impossible (c .before .enum-told .given .1) (clear-past (a .s) (a .pool .now) _ (c .if1 .taken))
-
-clear-action-requires : tie.Need-clear-action-requires
-clear-action-requires c κs = search needs
-
-enum-told-2 : tie.Need-enum-told-2
-enum-told-2 c = search needs
-
-enum-told-3 : tie.Need-enum-told-3
-enum-told-3 c = search needs
 
 returns-2 : tie.Need-returns-2
 returns-2 c =
@@ -75,17 +51,17 @@ pub next-step-spec : {M : Type 1} → statement M
 next-step-spec =
     tie.close
     (tie.spec
-    enum-known-work
-    log-a-requires
+    (λ c. search needs)
+    (λ c κs. search needs)
     replay-step-requires
-    enum-known-work-2
-    log-b-requires
+    (λ c. search needs)
+    (λ c κs. search needs)
     replay-step-requires-2
-    enum-told
+    (λ c. search needs)
     returns
-    clear-action-requires
-    enum-told-2
-    enum-told-3
+    (λ c κs. search needs)
+    (λ c. search needs)
+    (λ c. search needs)
     returns-2
     returns-3
     returns-4

@@ -9,12 +9,6 @@ use Rattle.recovery.proofs.replay_step.Tie as tie
 returns : tie.Need-returns
 returns c = λ l q. replay-many _ _ _ _ _ l q (omega (arith, c .if1 .taken))
 
-mul-if2 : tie.Need-mul-if2
-mul-if2 c = search needs
-
-add-if2 : tie.Need-add-if2
-add-if2 c = search needs
-
 returns-2 : tie.Need-returns-2
 returns-2 c = λ l q. search (needs, replay-past)
 
@@ -32,12 +26,6 @@ redo-action-requires c κs =
     let s = c .before .before .before .before .before in
     (s .pre .0 .range, replay-ready (s .args .s) _ _ _ _ _ (s .pre .0) (s .pre .1) (c .before .before .before .if1 .left) (c .before .lost .ensures) (c .if3 .left))
 
-mul-t8 : tie.Need-mul-t8
-mul-t8 c = search needs
-
-add-t11 : tie.Need-add-t11
-add-t11 c = search needs
-
 returns-4 : tie.Need-returns-4
 returns-4 c = λ l q. search (needs, replay-made)
 
@@ -46,13 +34,13 @@ replay-step-spec =
     tie.close
     (tie.spec
     returns
-    mul-if2
-    add-if2
+    (λ c. search needs)
+    (λ c. search needs)
     returns-2
     lost-requires
     returns-3
     add-redo-action
     redo-action-requires
-    mul-t8
-    add-t11
+    (λ c. search needs)
+    (λ c. search needs)
     returns-4)

@@ -9,12 +9,6 @@ returns : tie.Need-returns
 unfolding replied
 returns c = rw (eq-eqb _ _ (c .if1 .taken))
 
-enum-told : tie.Need-enum-told
-enum-told c = search needs
-
-enum-told-2 : tie.Need-enum-told-2
-enum-told-2 c = search needs
-
 returns-2 : tie.Need-returns-2
 unfolding replied
 returns-2 c = rw (ne-eqb _ _ (c .before .before .if1 .left), c .enum-told .given .1)
@@ -24,4 +18,11 @@ unfolding replied
 returns-3 c = rw (ne-eqb _ _ (c .before .before .if1 .left), c .enum-told2 .given .1)
 
 pub told-spec : {M : Type 1} → statement M
-told-spec = tie.close (tie.spec returns enum-told enum-told-2 returns-2 returns-3)
+told-spec =
+    tie.close
+    (tie.spec
+    returns
+    (λ c. search needs)
+    (λ c. search needs)
+    returns-2
+    returns-3)

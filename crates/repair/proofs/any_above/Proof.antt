@@ -27,12 +27,6 @@ shl-end c = let a = c .before in let b = bounds (a .args .s) (a .pre) in omega a
 loop-holds : tie.Need-loop-holds Inv-loop μ-loop
 loop-holds c = (search needs, refl, refl)
 
-mul-if1 : tie.Need-mul-if1 Inv-loop μ-loop
-mul-if1 c = search needs
-
-shared-slice-read-if1 : tie.Need-shared-slice-read-if1 Inv-loop μ-loop
-shared-slice-read-if1 c = search needs
-
 cast-if1 : tie.Need-cast-if1 Inv-loop μ-loop
 cast-if1 c = omega (arith, c .shared-slice-known .given (c .before .before .loop .i))
 
@@ -41,12 +35,6 @@ returns c =
     let l = c .before .before .before .loop in
     let a = c .before .before .before .before .before in
     any-hit _ (a .args .lost .now) (l .i) (l .inv .2) (omega arith) (le-leb _ _ (c .if1 .taken)) ∙ above-any (shapeOf (a .args .s)) _ (a .args .lost .now) (mask-end (a .args .s .rows) (bounds (a .args .s) (a .pre) .rows-high))
-
-add-i : tie.Need-add-i Inv-loop μ-loop
-add-i c = search needs
-
-loop-less : tie.Need-loop-less Inv-loop μ-loop
-loop-less c = search needs
 
 loop-again : tie.Need-loop-again Inv-loop μ-loop
 loop-again c =
@@ -69,11 +57,11 @@ any-above-spec =
     add-end
     shl-end
     loop-holds
-    mul-if1
-    shared-slice-read-if1
+    (λ c. search needs)
+    (λ c. search needs)
     cast-if1
     returns
-    add-i
-    loop-less
+    (λ c. search needs)
+    (λ c. search needs)
     loop-again
     returns-2)

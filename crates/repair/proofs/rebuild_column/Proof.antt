@@ -32,9 +32,6 @@ column-at-requires c κs = let a = c .before .before .before in let k = column a
 cast-row : tie.Need-cast-row
 cast-row c = omega (arith, ranged (c .before .before .before .before), lost-below (c .before .before .before .before))
 
-row-size-requires : tie.Need-row-size-requires
-row-size-requires c κs = search needs
-
 add-rebuild-page : tie.Need-add-rebuild-page
 add-rebuild-page c = omega (arith, ranged (c .before .before .before .before .before .before .before))
 
@@ -44,9 +41,6 @@ rebuild-page-requires c κs =
     let k = column a in
     let f = column-fits (shapeOf (a .args .s)) (shape-good (a .args .s) (a .pre .0)) _ _ (k .0) (k .1) (a .args .pool .now) _ _ (c .before .before .before .column-at .ensures) (c .before .row-size .ensures) (a .pre .1) in
     (omega arith, omega (arith, lost-below a), page-most (a .args .s) (a .pre .0))
-
-same-length : tie.Need-same-length
-same-length c = search needs
 
 returns : tie.Need-returns
 returns c = let a = c .before .before .before .before .before .before .before .before .before .before in column-rebuilt (shapeOf (a .args .s)) (a .args .pool .now) _ (a .args .k) _ _ _ (c .before .before .before .before .before .before .column-at .ensures) (c .before .before .before .before .row-size .ensures) (c .before .before .rebuild-page .ensures)
@@ -59,8 +53,8 @@ rebuild-column-spec =
     rem-column-at
     column-at-requires
     cast-row
-    row-size-requires
+    (λ c κs. search needs)
     add-rebuild-page
     rebuild-page-requires
-    same-length
+    (λ c. search needs)
     returns)

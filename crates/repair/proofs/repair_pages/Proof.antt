@@ -23,12 +23,6 @@ abbrev μ-loop : tie.MeasureT-loop
 loop-holds : tie.Need-loop-holds Inv-loop μ-loop
 loop-holds c = (search needs, refl, refl, sym (repaired-none _ _ (c .before .before .args .lost .now)))
 
-mul-mask : tie.Need-mul-mask Inv-loop μ-loop
-mul-mask c = search needs
-
-shared-slice-read-mask : tie.Need-shared-slice-read-mask Inv-loop μ-loop
-shared-slice-read-mask c = search needs
-
 rebuild-column-requires : tie.Need-rebuild-column-requires Inv-loop μ-loop
 rebuild-column-requires c κs =
     let a = c .before .before .before .before .before .before .before in
@@ -43,12 +37,6 @@ rebuild-column-requires c κs =
       mask-one (shapeOf (a .args .s)) g (a .args .pool .now) (a .args .lost .now) (a .pre .1) (b .rows-high) (a .pre .2) (a .pre .3) (a .pre .4) (l .k) h (c .before .if1 .taken),
     )
 
-add-k : tie.Need-add-k Inv-loop μ-loop
-add-k c = search needs
-
-loop-less : tie.Need-loop-less Inv-loop μ-loop
-loop-less c = search needs
-
 loop-again : tie.Need-loop-again Inv-loop μ-loop
 loop-again c =
     let a = c .before .before .before .before .before .before in
@@ -62,9 +50,6 @@ loop-again c =
       ⊎-elim (λ w. w .5 ∙ repaired-lost (shapeOf (a .args .s)) g (a .args .pool .now) (a .args .lost .now) (a .pre .1) (b .rows-high) (a .pre .2) (a .pre .3) (a .pre .4) (l .k) h (l .pool) _ (w .0 .taken) (l .inv .3) (w .2 .ensures))
           (λ w. w .1 ∙ l .inv .3 ∙ sym (repaired-zero (shapeOf (a .args .s)) (a .args .pool .now) (a .args .lost .now) (l .k) (w .0 .left))) (c .if1 .came),
     )
-
-same-length : tie.Need-same-length Inv-loop μ-loop
-same-length c = search needs
 
 returns : tie.Need-returns Inv-loop μ-loop
 returns c =
@@ -81,11 +66,11 @@ repair-pages-spec =
     Inv-loop
     μ-loop
     loop-holds
-    mul-mask
-    shared-slice-read-mask
+    (λ c. search needs)
+    (λ c. search needs)
     rebuild-column-requires
-    add-k
-    loop-less
+    (λ c. search needs)
+    (λ c. search needs)
     loop-again
-    same-length
+    (λ c. search needs)
     returns)

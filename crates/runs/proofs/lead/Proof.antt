@@ -11,11 +11,14 @@ returns c = let s = c .before .before .before in lead-none (zoned-seen (s .args 
 meet-requires : tie.Need-meet-requires
 meet-requires c κs = let s = c .before .before .before in (s .pre .0, s .pre .1, c .if1 .left)
 
-free-cells-requires : tie.Need-free-cells-requires
-free-cells-requires c κs = search needs
-
 returns-2 : tie.Need-returns-2
 returns-2 c = let s = c .before .before .before .before .before in lead-some (whole-passed (zoned-seen (s .args .staging .now) (s .args .count) (s .pre .1)) (c .before .before .if1 .left) (s .pre .3) (c .before .meet .ensures)) (c .free-cells .ensures)
 
 pub lead-spec : {M : Type 1} → statement M
-lead-spec = tie.close (tie.spec returns meet-requires free-cells-requires returns-2)
+lead-spec =
+    tie.close
+    (tie.spec
+    returns
+    meet-requires
+    (λ c κs. search needs)
+    returns-2)

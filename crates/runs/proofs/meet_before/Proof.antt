@@ -4,28 +4,10 @@ use borrow.Author.Needs.{needs}
 use Rattle.runs.proofs.meet_before.Statement.{statement}
 use Rattle.runs.proofs.meet_before.Tie as tie
 
-mul-head-before : tie.Need-mul-head-before
-mul-head-before c = search needs
-
-add-head-before : tie.Need-add-head-before
-add-head-before c = search needs
-
-head-before-requires : tie.Need-head-before-requires
-head-before-requires c κs = search needs
-
-cells-requires : tie.Need-cells-requires
-cells-requires c κs = search needs
-
-sub-if1 : tie.Need-sub-if1
-sub-if1 c = search needs
-
 returns : tie.Need-returns
 returns c =
     let s = c .before .before .before .before .before .before in
     meets-long (zoned-seen (s .args .staging .now) (s .args .count) (s .pre .1)) (s .pre .2) _ (c .before .before .before .head-before .ensures) (c .before .before .cells .ensures .0) (c .if1 .taken)
-
-free-ok-requires : tie.Need-free-ok-requires
-free-ok-requires c κs = search needs
 
 returns-2 : tie.Need-returns-2
 returns-2 c =
@@ -36,9 +18,6 @@ returns-3 : tie.Need-returns-3
 returns-3 c =
     let s = c .before .before .before .before .before .before .before .before .before in
     meets-free (zoned-seen (s .args .staging .now) (s .args .count) (s .pre .1)) (s .pre .2) _ (c .before .before .before .before .before .before .head-before .ensures) (c .before .before .before .before .before .cells .ensures .0) (c .before .before .before .if1 .left) (c .before .before .free-ok .ensures) (c .before .if2 .taken) (c .if3 .left)
-
-object-ok-requires : tie.Need-object-ok-requires
-object-ok-requires c κs = search needs
 
 returns-4 : tie.Need-returns-4
 returns-4 c =
@@ -54,15 +33,15 @@ pub meet-before-spec : {M : Type 1} → statement M
 meet-before-spec =
     tie.close
     (tie.spec
-    mul-head-before
-    add-head-before
-    head-before-requires
-    cells-requires
-    sub-if1
+    (λ c. search needs)
+    (λ c. search needs)
+    (λ c κs. search needs)
+    (λ c κs. search needs)
+    (λ c. search needs)
     returns
-    free-ok-requires
+    (λ c κs. search needs)
     returns-2
     returns-3
-    object-ok-requires
+    (λ c κs. search needs)
     returns-4
     returns-5)

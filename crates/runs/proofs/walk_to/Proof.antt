@@ -30,9 +30,6 @@ advance-requires c κs = let s = c .before .before .before .before in (s .pre .0
 returns : tie.Need-returns Inv-loop μ-loop
 returns c = came-broken (walking-broken (c .before .before .before .loop .inv .0) (omega arith) (c .before .advance .ensures .0) (c .if1 .taken))
 
-free-cells-requires : tie.Need-free-cells-requires Inv-loop μ-loop
-free-cells-requires c κs = search needs
-
 add-c : tie.Need-add-c Inv-loop μ-loop
 add-c c = let p = walking-passed (c .before .before .before .before .loop .inv .0) (omega arith) (c .before .before .advance .ensures .0) (c .before .if1 .left) in omega (arith, p .within)
 
@@ -58,7 +55,7 @@ walk-to-spec =
     loop-holds
     advance-requires
     returns
-    free-cells-requires
+    (λ c κs. search needs)
     add-c
     loop-less
     loop-again

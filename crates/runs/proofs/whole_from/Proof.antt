@@ -23,9 +23,6 @@ abbrev μ-loop : tie.MeasureT-loop
 loop-holds : tie.Need-loop-holds Inv-loop μ-loop
 loop-holds c = let s = c .before .before in (record { zoned = zoned-seen (s .args .staging .now) (s .args .count) (s .pre .1); within = s .pre .2; rest = refl }, s .pre .3)
 
-advance-requires : tie.Need-advance-requires Inv-loop μ-loop
-advance-requires c κs = search needs
-
 returns : tie.Need-returns Inv-loop μ-loop
 returns c = walking-broken (c .before .before .before .loop .inv .0) (c .before .before .loop-test .taken) (c .before .advance .ensures .0) (c .if1 .taken)
 
@@ -50,7 +47,7 @@ whole-from-spec =
     Inv-loop
     μ-loop
     loop-holds
-    advance-requires
+    (λ c κs. search needs)
     returns
     add-c
     loop-less

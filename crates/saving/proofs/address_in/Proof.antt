@@ -4,12 +4,6 @@ use borrow.Author.Needs.{needs}
 use Rattle.saving.proofs.address_in.Statement.{statement}
 use Rattle.saving.proofs.address_in.Tie as tie
 
-kind-requires : tie.Need-kind-requires
-kind-requires c κs = search needs
-
-value-requires : tie.Need-value-requires
-value-requires c κs = search needs
-
 returns : tie.Need-returns
 returns c = address-kind _ (c .before .before .kind .ensures) (c .before .if1 .taken) (c .value .ensures)
 
@@ -17,4 +11,10 @@ returns-2 : tie.Need-returns-2
 returns-2 c = other-kind _ (c .before .kind .ensures) (c .if1 .left)
 
 pub address-in-spec : {M : Type 1} → statement M
-address-in-spec = tie.close (tie.spec kind-requires value-requires returns returns-2)
+address-in-spec =
+    tie.close
+    (tie.spec
+    (λ c κs. search needs)
+    (λ c κs. search needs)
+    returns
+    returns-2)

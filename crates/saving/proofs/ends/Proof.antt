@@ -5,19 +5,19 @@ use borrow.Author.Needs.{needs}
 use Rattle.saving.proofs.ends.Statement.{statement}
 use Rattle.saving.proofs.ends.Tie as tie
 
-is-done-requires : tie.Need-is-done-requires
-is-done-requires c κs = search needs
-
 returns : tie.Need-returns
 unfolding isEnd isDone isRefused
 returns c = search needs
-
-is-refused-requires : tie.Need-is-refused-requires
-is-refused-requires c κs = search needs
 
 returns-2 : tie.Need-returns-2
 unfolding isEnd isDone isRefused
 returns-2 c = search needs
 
 pub ends-spec : {M : Type 1} → statement M
-ends-spec = tie.close (tie.spec is-done-requires returns is-refused-requires returns-2)
+ends-spec =
+    tie.close
+    (tie.spec
+    (λ c κs. search needs)
+    returns
+    (λ c κs. search needs)
+    returns-2)

@@ -5,11 +5,12 @@ use borrow.Author.Needs.{needs}
 use Rattle.saving.proofs.is_done.Statement.{statement}
 use Rattle.saving.proofs.is_done.Tie as tie
 
-kind-requires : tie.Need-kind-requires
-kind-requires c κs = search needs
-
 returns : tie.Need-returns
 returns c = done-kind _ (c .kind .ensures) _ (omega arith)
 
 pub is-done-spec : {M : Type 1} → statement M
-is-done-spec = tie.close (tie.spec kind-requires returns)
+is-done-spec =
+    tie.close
+    (tie.spec
+    (λ c κs. search needs)
+    returns)

@@ -5,11 +5,12 @@ use borrow.Author.Needs.{needs}
 use Rattle.saving.proofs.is_refused.Statement.{statement}
 use Rattle.saving.proofs.is_refused.Tie as tie
 
-kind-requires : tie.Need-kind-requires
-kind-requires c κs = search needs
-
 returns : tie.Need-returns
 returns c = refused-kind _ (c .kind .ensures) _ (omega arith)
 
 pub is-refused-spec : {M : Type 1} → statement M
-is-refused-spec = tie.close (tie.spec kind-requires returns)
+is-refused-spec =
+    tie.close
+    (tie.spec
+    (λ c κs. search needs)
+    returns)

@@ -15,40 +15,19 @@ Inv-loop pool₀ r₀ left₀ pool r left = (length pool ≡ length pool₀) × 
 abbrev μ-loop : tie.MeasureT-loop
 μ-loop pool₀ r₀ left₀ pool r left = left
 
-start-requires : tie.Need-start-requires Inv-loop μ-loop
-start-requires c κs = search needs
-
 loop-holds : tie.Need-loop-holds Inv-loop μ-loop
 loop-holds c = (search needs, recover-begun _ _ _ (omega arith) (c .start .ensures))
-
-ends-requires : tie.Need-ends-requires Inv-loop μ-loop
-ends-requires c κs = search needs
-
-same-length : tie.Need-same-length Inv-loop μ-loop
-same-length c = search needs
 
 returns : tie.Need-returns Inv-loop μ-loop
 returns c =
     let l = c .before .before .before .loop in
     recover-end _ (afterOf (l .r) (l .pool)) (l .left) (c .before .ends .ensures) (c .if1 .taken) (l .inv .1)
 
-step-requires : tie.Need-step-requires Inv-loop μ-loop
-step-requires c κs = search needs
-
-sub-left : tie.Need-sub-left Inv-loop μ-loop
-sub-left c = search needs
-
-loop-less : tie.Need-loop-less Inv-loop μ-loop
-loop-less c = search needs
-
 loop-again : tie.Need-loop-again Inv-loop μ-loop
 loop-again c =
     let i = c .before .before .before .before .before in
     let l = i .before .before .before .loop in
     (search needs, recover-on (l .left) (afterOf (l .r) (l .pool)) _ (omega arith) (i .before .ends .ensures) (i .if1 .left) (c .before .before .step .ensures) ∙ l .inv .1)
-
-same-length-2 : tie.Need-same-length-2 Inv-loop μ-loop
-same-length-2 c = search needs
 
 returns-2 : tie.Need-returns-2 Inv-loop μ-loop
 returns-2 c =
@@ -61,14 +40,14 @@ recover-spec =
     (tie.spec
     Inv-loop
     μ-loop
-    start-requires
+    (λ c κs. search needs)
     loop-holds
-    ends-requires
-    same-length
+    (λ c κs. search needs)
+    (λ c. search needs)
     returns
-    step-requires
-    sub-left
-    loop-less
+    (λ c κs. search needs)
+    (λ c. search needs)
+    (λ c. search needs)
     loop-again
-    same-length-2
+    (λ c. search needs)
     returns-2)

@@ -4,17 +4,14 @@ use borrow.Author.Needs.{needs}
 use Rattle.saving.proofs.run.Statement.{statement}
 use Rattle.saving.proofs.run.Tie as tie
 
-commit-requires : tie.Need-commit-requires
-commit-requires c κs = search needs
-
-steps-requires : tie.Need-steps-requires
-steps-requires c κs = search needs
-
-same-length : tie.Need-same-length
-same-length c = search needs
-
 returns : tie.Need-returns
 returns c = run-made _ _ (c .before .before .before .before .commit .ensures) (c .before .before .steps .ensures)
 
 pub run-spec : {M : Type 1} → statement M
-run-spec = tie.close (tie.spec commit-requires steps-requires same-length returns)
+run-spec =
+    tie.close
+    (tie.spec
+    (λ c κs. search needs)
+    (λ c κs. search needs)
+    (λ c. search needs)
+    returns)

@@ -15,29 +15,11 @@ Inv-loop pool₀ staging budget r₀ left₀ pool r left = (length pool ≡ leng
 abbrev μ-loop : tie.MeasureT-loop
 μ-loop pool₀ staging budget r₀ left₀ pool r left = left
 
-loop-holds : tie.Need-loop-holds Inv-loop μ-loop
-loop-holds c = search needs
-
-ends-requires : tie.Need-ends-requires Inv-loop μ-loop
-ends-requires c κs = search needs
-
-same-length : tie.Need-same-length Inv-loop μ-loop
-same-length c = search needs
-
 returns : tie.Need-returns Inv-loop μ-loop
 returns c =
     let h = c .before .before .before in
     let l = h .loop in
     sym (steps-end (l .left) (afterOf (l .r) (l .pool) (h .before .before .before .args .staging .now)) (c .before .ends .ensures) (c .if1 .taken)) ∙ l .inv .1
-
-step-requires : tie.Need-step-requires Inv-loop μ-loop
-step-requires c κs = search needs
-
-sub-left : tie.Need-sub-left Inv-loop μ-loop
-sub-left c = search needs
-
-loop-less : tie.Need-loop-less Inv-loop μ-loop
-loop-less c = search needs
 
 loop-again : tie.Need-loop-again Inv-loop μ-loop
 loop-again c =
@@ -45,9 +27,6 @@ loop-again c =
     let h = i .before .before .before in
     let l = h .loop in
     (search needs, steps-on (l .left) (afterOf (l .r) (l .pool) (h .before .before .before .args .staging .now)) _ (omega arith) (i .before .ends .ensures) (i .if1 .left) (c .before .before .step .ensures) ∙ l .inv .1)
-
-same-length-2 : tie.Need-same-length-2 Inv-loop μ-loop
-same-length-2 c = search needs
 
 returns-2 : tie.Need-returns-2 Inv-loop μ-loop
 returns-2 c =
@@ -60,13 +39,13 @@ steps-spec =
     (tie.spec
     Inv-loop
     μ-loop
-    loop-holds
-    ends-requires
-    same-length
+    (λ c. search needs)
+    (λ c κs. search needs)
+    (λ c. search needs)
     returns
-    step-requires
-    sub-left
-    loop-less
+    (λ c κs. search needs)
+    (λ c. search needs)
+    (λ c. search needs)
     loop-again
-    same-length-2
+    (λ c. search needs)
     returns-2)

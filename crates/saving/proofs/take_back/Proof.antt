@@ -6,18 +6,6 @@ use borrow.Author.Needs.{needs}
 use Rattle.saving.proofs.take_back.Statement.{statement}
 use Rattle.saving.proofs.take_back.Tie as tie
 
-new-requires : tie.Need-new-requires
-new-requires c κs = search needs
-
-allocate-requires : tie.Need-allocate-requires
-allocate-requires c κs = search needs
-
-is-refused-requires : tie.Need-is-refused-requires
-is-refused-requires c κs = search needs
-
-same-length : tie.Need-same-length
-same-length c = search needs
-
 first : (c : tie.After-is-refused) → let s = c .before .before .before .before .before .before .before .before .before .args in let a = c .before .before .before .allocate in
     Allocated (s .pool .now) (s .staging .now) (s .tag) (s .body .now) (a .result) (a .last .1 .1 .0) (c .is-refused .result)
 first c =
@@ -26,15 +14,6 @@ first c =
 
 returns : tie.Need-returns
 returns c = back-refused _ _ _ _ (first (c .before)) (c .if1 .taken)
-
-address-in-requires : tie.Need-address-in-requires
-address-in-requires c κs = search needs
-
-free-requires : tie.Need-free-requires
-free-requires c κs = search needs
-
-same-length-2 : tie.Need-same-length-2
-same-length-2 c = search needs
 
 returns-2 : tie.Need-returns-2
 returns-2 c =
@@ -46,12 +25,12 @@ pub take-back-spec : {M : Type 1} → statement M
 take-back-spec =
     tie.close
     (tie.spec
-    new-requires
-    allocate-requires
-    is-refused-requires
-    same-length
+    (λ c κs. search needs)
+    (λ c κs. search needs)
+    (λ c κs. search needs)
+    (λ c. search needs)
     returns
-    address-in-requires
-    free-requires
-    same-length-2
+    (λ c κs. search needs)
+    (λ c κs. search needs)
+    (λ c. search needs)
     returns-2)

@@ -6,47 +6,17 @@ use borrow.Author.Needs.{needs}
 use Rattle.scan.proofs.put_run.Statement.{statement}
 use Rattle.scan.proofs.put_run.Tie as tie
 
-sub-meet : tie.Need-sub-meet
-sub-meet c = search needs
-
-part-meet-start : tie.Need-part-meet-start
-part-meet-start c = search needs
-
-part-meet-end : tie.Need-part-meet-end
-part-meet-end c = search needs
-
-meet-requires : tie.Need-meet-requires
-meet-requires c κs = search needs
-
-put-broken-requires : tie.Need-put-broken-requires
-put-broken-requires c κs = search needs
-
-same-length : tie.Need-same-length
-same-length c = search needs
-
 returns : tie.Need-returns
 returns c = let s = c .before .before .before .before .before .before .before .before .before in lined-broken _ (s .pre .2) (s .pre .3) (c .before .before .before .before .before .meet .ensures) (c .before .before .before .before .if1 .taken) _ (c .before .before .put-broken .ensures)
 
 put-free-requires : tie.Need-put-free-requires
 put-free-requires c κs = let s = c .before .before .before .before .before .before .before in let d = pool-passed _ (s .pre .2) (s .pre .3) (c .before .before .before .meet .ensures) (c .before .before .if1 .left) in (s .pre .0, omega (arith, d .within))
 
-same-length-2 : tie.Need-same-length-2
-same-length-2 c = search needs
-
 returns-2 : tie.Need-returns-2
 returns-2 c = let s = c .before .before .before .before .before .before .before .before .before .before in let d = pool-passed _ (s .pre .2) (s .pre .3) (c .before .before .before .before .before .before .meet .ensures) (c .before .before .before .before .before .if1 .left) in lined-free d (c .before .before .before .before .if2 .taken) (c .before .before .put-free .ensures)
 
-mul-put-judged : tie.Need-mul-put-judged
-mul-put-judged c = search needs
-
-add-put-judged : tie.Need-add-put-judged
-add-put-judged c = search needs
-
 put-judged-requires : tie.Need-put-judged-requires
 put-judged-requires c κs = let s = c .before .before .before .before .before .before .before in let d = pool-passed _ (s .pre .2) (s .pre .3) (c .before .before .before .meet .ensures) (c .before .before .if1 .left) in (s .pre .0, s .pre .1, omega (arith, s .pre .2 .even), object-there (s .pre .2) d (c .before .if2 .left))
-
-same-length-3 : tie.Need-same-length-3
-same-length-3 c = search needs
 
 returns-3 : tie.Need-returns-3
 returns-3 c = let s = c .before .before .before .before .before .before .before .before .before .before in let d = pool-passed _ (s .pre .2) (s .pre .3) (c .before .before .before .before .before .before .meet .ensures) (c .before .before .before .before .before .if1 .left) in lined-object d (c .before .before .before .before .if2 .left) (c .before .before .put-judged .ensures)
@@ -55,18 +25,18 @@ pub put-run-spec : {M : Type 1} → statement M
 put-run-spec =
     tie.close
     (tie.spec
-    sub-meet
-    part-meet-start
-    part-meet-end
-    meet-requires
-    put-broken-requires
-    same-length
+    (λ c. search needs)
+    (λ c. search needs)
+    (λ c. search needs)
+    (λ c κs. search needs)
+    (λ c κs. search needs)
+    (λ c. search needs)
     returns
     put-free-requires
-    same-length-2
+    (λ c. search needs)
     returns-2
-    mul-put-judged
-    add-put-judged
+    (λ c. search needs)
+    (λ c. search needs)
     put-judged-requires
-    same-length-3
+    (λ c. search needs)
     returns-3)

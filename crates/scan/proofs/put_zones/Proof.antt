@@ -30,12 +30,6 @@ put-zone-requires c κs =
     let i = c .before .before .before .loop .inv in
     (omega (arith, place-small (s .args .s) g i (s .pre .0), zone-few (s .args .s) g, e .cells-is), omega (arith, bounds (s .args .s) (g .range) .zones-high), omega (arith, zone-few (s .args .s) g, e .cells-is), staged-none (s .args .s) g _, zone-inside (s .args .s) (g .range) (g .size) k e)
 
-add-z : tie.Need-add-z Inv-loop μ-loop
-add-z c = search needs
-
-loop-less : tie.Need-loop-less Inv-loop μ-loop
-loop-less c = search needs
-
 loop-again : tie.Need-loop-again Inv-loop μ-loop
 loop-again c = zones-step (c .before .before .before .before .before .before .loop .inv) (c .before .before .before .before .before .loop-test .taken) (c .before .before .before .before .zone .ensures) (c .before .before .put-zone .ensures)
 
@@ -54,8 +48,8 @@ put-zones-spec =
     loop-holds
     zone-requires
     put-zone-requires
-    add-z
-    loop-less
+    (λ c. search needs)
+    (λ c. search needs)
     loop-again
     same-length
     returns)

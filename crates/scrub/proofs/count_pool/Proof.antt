@@ -38,9 +38,6 @@ add-damaged c =
     let g = bounds (s .args .s) (s .pre .range) in
     omega (arith, c .before .before .before .before .before .loop .inv .damaged .few, c .before .before .before .before .before .loop .inv .within, g .zones-high, c .before .before .count-zone .ensures .fewer, cells-small (s .args .s) (s .pre .range) (c .before .before .before .zone .ensures))
 
-one-if-requires : tie.Need-one-if-requires Inv-loop μ-loop
-one-if-requires c κs = search needs
-
 add-broken : tie.Need-add-broken Inv-loop μ-loop
 add-broken c =
     let s = c .before .before .before .before .before .before .before .before .before in
@@ -76,7 +73,7 @@ count-pool-spec =
     count-zone-requires
     add-objects
     add-damaged
-    one-if-requires
+    (λ c κs. search needs)
     add-broken
     add-z
     loop-less

@@ -19,15 +19,6 @@ abbrev μ-loop : tie.MeasureT-loop
 loop-holds : tie.Need-loop-holds Inv-loop μ-loop
 loop-holds c = (walking-start (c .before .pre .1) refl, omega arith, omega arith)
 
-sub-meet : tie.Need-sub-meet Inv-loop μ-loop
-sub-meet c = search needs
-
-part-meet-start : tie.Need-part-meet-start Inv-loop μ-loop
-part-meet-start c = search needs
-
-part-meet-end : tie.Need-part-meet-end Inv-loop μ-loop
-part-meet-end c = search needs
-
 meet-requires : tie.Need-meet-requires Inv-loop μ-loop
 meet-requires c κs = let s = c .before .before .before .before in (s .pre .0, s .pre .1, c .before .loop-test .taken)
 
@@ -43,9 +34,6 @@ passed : (c : tie.Else1 Inv-loop μ-loop)
     Passed (s .args .pool .now) (s .args .zone .from) (s .args .zone .cells) (l .c) (l .after) (c .before .meet .result .cells) (c .before .meet .result .free)
 passed c = walking-passed (c .before .before .before .before .loop .inv .0) (c .before .before .before .loop-test .taken) (meets-pool _ (c .before .meet .ensures)) (c .if1 .left)
 
-one-if-requires : tie.Need-one-if-requires Inv-loop μ-loop
-one-if-requires c κs = search needs
-
 add-objects : tie.Need-add-objects Inv-loop μ-loop
 add-objects c = let s = c .before .before .before .before .before .before .before .before in omega (arith, c .before .before .before .before .before .before .loop .inv .1, c .before .before .before .before .before .loop-test .taken, s .pre .1 .inside)
 
@@ -59,9 +47,6 @@ damaged-at-requires : tie.Need-damaged-at-requires Inv-loop μ-loop
 damaged-at-requires c κs =
     let s = c .before .before .before .before .before .before .before .before in
     (s .pre .0, omega (arith, s .pre .1 .even), λ e. object-there (s .pre .1) (passed (c .before .before)) e)
-
-one-if-requires-2 : tie.Need-one-if-requires-2 Inv-loop μ-loop
-one-if-requires-2 c κs = search needs
 
 add-damaged : tie.Need-add-damaged Inv-loop μ-loop
 add-damaged c = let s = c .before .before .before .before .before .before .before .before .before .before in omega (arith, c .before .before .before .before .before .before .before .before .loop .inv .2, c .before .before .before .before .before .before .before .loop-test .taken, s .pre .1 .inside)
@@ -92,17 +77,17 @@ count-zone-spec =
     Inv-loop
     μ-loop
     loop-holds
-    sub-meet
-    part-meet-start
-    part-meet-end
+    (λ c. search needs)
+    (λ c. search needs)
+    (λ c. search needs)
     meet-requires
     returns
-    one-if-requires
+    (λ c κs. search needs)
     add-objects
     mul-damaged-at
     add-damaged-at
     damaged-at-requires
-    one-if-requires-2
+    (λ c κs. search needs)
     add-damaged
     add-c
     loop-less

@@ -8,29 +8,8 @@ use Rattle.scrub.proofs.damaged_at.Tie as tie
 returns : tie.Need-returns
 returns c = free-at _ _ (c .if1 .taken)
 
-sub-read-head : tie.Need-sub-read-head
-sub-read-head c = search needs
-
-part-read-head-start : tie.Need-part-read-head-start
-part-read-head-start c = search needs
-
-part-read-head-end : tie.Need-part-read-head-end
-part-read-head-end c = search needs
-
 read-head-requires : tie.Need-read-head-requires
 read-head-requires c κs = let s = c .before .before .before in (s .pre .0, s .pre .1, omega (arith, object-room (s .pre .2 (c .before .if1 .left))))
-
-sub-intact : tie.Need-sub-intact
-sub-intact c = search needs
-
-part-intact-start : tie.Need-part-intact-start
-part-intact-start c = search needs
-
-part-intact-end : tie.Need-part-intact-end
-part-intact-end c = search needs
-
-body-requires : tie.Need-body-requires
-body-requires c κs = search needs
 
 intact-requires : tie.Need-intact-requires
 intact-requires c κs =
@@ -47,13 +26,13 @@ damaged-at-spec =
     tie.close
     (tie.spec
     returns
-    sub-read-head
-    part-read-head-start
-    part-read-head-end
+    (λ c. search needs)
+    (λ c. search needs)
+    (λ c. search needs)
     read-head-requires
-    sub-intact
-    part-intact-start
-    part-intact-end
-    body-requires
+    (λ c. search needs)
+    (λ c. search needs)
+    (λ c. search needs)
+    (λ c κs. search needs)
     intact-requires
     returns-2)

@@ -4,27 +4,6 @@ use borrow.Author.Needs.{needs}
 use Rattle.stage.proofs.append.Statement.{statement}
 use Rattle.stage.proofs.append.Tie as tie
 
-mul-store64 : tie.Need-mul-store64
-mul-store64 c = search needs
-
-store64-requires : tie.Need-store64-requires
-store64-requires c κs = search needs
-
-mul-store64-2 : tie.Need-mul-store64-2
-mul-store64-2 c = search needs
-
-add-store64 : tie.Need-add-store64
-add-store64 c = search needs
-
-store64-requires-2 : tie.Need-store64-requires-2
-store64-requires-2 c κs = search needs
-
-add-result : tie.Need-add-result
-add-result c = search needs
-
-same-length : tie.Need-same-length
-same-length c = search needs
-
 returns : tie.Need-returns
 returns c =
     let s = c .before .before .before .before .before .before .before .before .before in
@@ -34,11 +13,11 @@ pub append-spec : {M : Type 1} → statement M
 append-spec =
     tie.close
     (tie.spec
-    mul-store64
-    store64-requires
-    mul-store64-2
-    add-store64
-    store64-requires-2
-    add-result
-    same-length
+    (λ c. search needs)
+    (λ c κs. search needs)
+    (λ c. search needs)
+    (λ c. search needs)
+    (λ c κs. search needs)
+    (λ c. search needs)
+    (λ c. search needs)
     returns)

@@ -14,20 +14,8 @@ abbrev μ-loop : tie.MeasureT-loop
 loop-holds : tie.Need-loop-holds Inv-loop μ-loop
 loop-holds c = searching-start _ _ _
 
-mul-load64 : tie.Need-mul-load64 Inv-loop μ-loop
-mul-load64 c = search needs
-
-load64-requires : tie.Need-load64-requires Inv-loop μ-loop
-load64-requires c κs = search needs
-
 returns : tie.Need-returns Inv-loop μ-loop
 returns c = searching-hit (c .before .before .before .loop .inv) (c .before .before .loop-test .taken) (c .before .load64 .ensures) (c .if1 .taken)
-
-add-i : tie.Need-add-i Inv-loop μ-loop
-add-i c = search needs
-
-loop-less : tie.Need-loop-less Inv-loop μ-loop
-loop-less c = search needs
 
 loop-again : tie.Need-loop-again Inv-loop μ-loop
 loop-again c = searching-step (c .before .before .before .loop .inv) (c .before .before .loop-test .taken) (c .before .load64 .ensures) (c .if1 .left)
@@ -42,10 +30,10 @@ entry-index-spec =
     Inv-loop
     μ-loop
     loop-holds
-    mul-load64
-    load64-requires
+    (λ c. search needs)
+    (λ c κs. search needs)
     returns
-    add-i
-    loop-less
+    (λ c. search needs)
+    (λ c. search needs)
     loop-again
     returns-2)

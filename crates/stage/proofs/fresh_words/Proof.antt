@@ -6,9 +6,6 @@ use borrow.Author.Needs.{needs}
 use Rattle.stage.proofs.fresh_words.Statement.{statement}
 use Rattle.stage.proofs.fresh_words.Tie as tie
 
-entries-in-requires : tie.Need-entries-in-requires
-entries-in-requires c κs = search needs
-
 sub-result : tie.Need-sub-result
 sub-result c =
     let s = c .before .before in
@@ -20,4 +17,9 @@ returns c =
     omega (arith, missing-rest (s .args .n) (s .args .from) (entriesOf (s .args .staging .now) (s .args .count)) (s .pre .2))
 
 pub fresh-words-spec : {M : Type 1} → statement M
-fresh-words-spec = tie.close (tie.spec entries-in-requires sub-result returns)
+fresh-words-spec =
+    tie.close
+    (tie.spec
+    (λ c κs. search needs)
+    sub-result
+    returns)

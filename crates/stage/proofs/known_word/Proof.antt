@@ -6,20 +6,17 @@ use borrow.Author.Needs.{needs}
 use Rattle.stage.proofs.known_word.Statement.{statement}
 use Rattle.stage.proofs.known_word.Tie as tie
 
-load64-requires : tie.Need-load64-requires
-load64-requires c κs = search needs
-
 returns : tie.Need-returns
 returns c =
     let s = c .before .before .before .before in
     let b : Bytes (s .args .pool .now) = λ i. omega (arith, c .before .before .before .shared-slice-known .given i) in
     reads-pool b (s .pre .0) (s .pre .1) (s .pre .2) (s .pre .3 (c .before .if1 .taken)) (c .load64 .ensures)
 
-staged-word-requires : tie.Need-staged-word-requires
-staged-word-requires c κs = search needs
-
-returns-2 : tie.Need-returns-2
-returns-2 c = search needs
-
 pub known-word-spec : {M : Type 1} → statement M
-known-word-spec = tie.close (tie.spec load64-requires returns staged-word-requires returns-2)
+known-word-spec =
+    tie.close
+    (tie.spec
+    (λ c κs. search needs)
+    returns
+    (λ c κs. search needs)
+    (λ c. search needs))

@@ -7,21 +7,6 @@ use borrow.Author.Needs.{needs}
 use Rattle.stage.proofs.staged_word.Statement.{statement}
 use Rattle.stage.proofs.staged_word.Tie as tie
 
-entry-index-requires : tie.Need-entry-index-requires
-entry-index-requires c κs = search needs
-
-mul-load64 : tie.Need-mul-load64
-mul-load64 c = search needs
-
-add-load64 : tie.Need-add-load64
-add-load64 c = search needs
-
-load64-requires : tie.Need-load64-requires
-load64-requires c κs = search needs
-
-load64-requires-2 : tie.Need-load64-requires-2
-load64-requires-2 c κs = search needs
-
 returns : tie.Need-returns
 returns c =
     let s = c .before .before .before .before .before in
@@ -38,10 +23,10 @@ pub staged-word-spec : {M : Type 1} → statement M
 staged-word-spec =
     tie.close
     (tie.spec
-    entry-index-requires
-    mul-load64
-    add-load64
-    load64-requires
-    load64-requires-2
+    (λ c κs. search needs)
+    (λ c. search needs)
+    (λ c. search needs)
+    (λ c κs. search needs)
+    (λ c κs. search needs)
     returns
     returns-2)

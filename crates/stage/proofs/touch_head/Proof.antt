@@ -8,17 +8,11 @@ use Rattle.stage.proofs.touch_head.Tie as tie
 touch-known-requires : tie.Need-touch-known-requires
 touch-known-requires c κs = let p = c .before .before .pre in (room-first (p .0), λ f. fresh-first 1 _ _ (p .2 f))
 
-add-touch-known : tie.Need-add-touch-known
-add-touch-known c = search needs
-
 touch-known-requires-2 : tie.Need-touch-known-requires-2
 touch-known-requires-2 c κs =
     let h = c .before .before .before in
     let p = h .before .before .before .pre in
     (room-next (p .0) (h .touch-known .ensures), λ f. fresh-first 0 _ _ (fresh-behind (p .2 f) (h .touch-known .ensures)))
-
-same-length : tie.Need-same-length
-same-length c = search needs
 
 returns : tie.Need-returns
 returns c = touched-head (search needs) (search needs) (c .before .before .before .before .before .before .touch-known .ensures) (c .before .before .touch-known2 .ensures)
@@ -26,4 +20,9 @@ returns c = touched-head (search needs) (search needs) (c .before .before .befor
 pub touch-head-spec : {M : Type 1} → statement M
 touch-head-spec =
     tie.close
-    (tie.spec touch-known-requires add-touch-known touch-known-requires-2 same-length returns)
+    (tie.spec
+    touch-known-requires
+    (λ c. search needs)
+    touch-known-requires-2
+    (λ c. search needs)
+    returns)

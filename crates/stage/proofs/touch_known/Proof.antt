@@ -10,21 +10,13 @@ append-requires c κs =
     let a = s .pre .1 (c .before .if1 .taken) in
     (room-fresh (s .pre .0) a, a)
 
-same-length : tie.Need-same-length
-same-length c = search needs
-
-returns : tie.Need-returns
-returns c = search needs
-
-touch-requires : tie.Need-touch-requires
-touch-requires c κs = search needs
-
-same-length-2 : tie.Need-same-length-2
-same-length-2 c = search needs
-
-returns-2 : tie.Need-returns-2
-returns-2 c = search needs
-
 pub touch-known-spec : {M : Type 1} → statement M
 touch-known-spec =
-    tie.close (tie.spec append-requires same-length returns touch-requires same-length-2 returns-2)
+    tie.close
+    (tie.spec
+    append-requires
+    (λ c. search needs)
+    (λ c. search needs)
+    (λ c κs. search needs)
+    (λ c. search needs)
+    (λ c. search needs))

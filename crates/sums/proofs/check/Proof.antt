@@ -5,17 +5,14 @@ use borrow.Author.Needs.{needs}
 use Rattle.sums.proofs.check.Statement.{statement}
 use Rattle.sums.proofs.check.Tie as tie
 
-new-requires : tie.Need-new-requires
-new-requires c κs = search needs
-
-feed-requires : tie.Need-feed-requires
-feed-requires c κs = search needs
-
-value-requires : tie.Need-value-requires
-value-requires c κs = search needs
-
 returns : tie.Need-returns
 returns c = c .value .ensures ∙ fed-check (c .before .before .new .ensures) (c .before .feed .ensures)
 
 pub check-spec : {M : Type 1} → statement M
-check-spec = tie.close (tie.spec new-requires feed-requires value-requires returns)
+check-spec =
+    tie.close
+    (tie.spec
+    (λ c κs. search needs)
+    (λ c κs. search needs)
+    (λ c κs. search needs)
+    returns)

@@ -9,12 +9,6 @@ use borrow.Author.Needs.{needs}
 use Rattle.sums.proofs.difference.Statement.{statement}
 use Rattle.sums.proofs.difference.Tie as tie
 
-cast-result : tie.Need-cast-result
-cast-result c = search needs
-
-cast-result-2 : tie.Need-cast-result-2
-cast-result-2 c = search needs
-
 sub-result : tie.Need-sub-result
 sub-result c = record { sfits = rw (S.toZ-difference (c .args .u) (c .args .v) (search needs) (search needs)) (omega (arith, S.difference-lt (c .args .u) (c .args .v) (search needs) (search needs))) }
 
@@ -24,4 +18,10 @@ returns c =
     (e, subst (λ z. mag z < 256) (sym e) (S.difference-lt (c .args .u) (c .args .v) (search needs) (search needs)))
 
 pub difference-spec : {M : Type 1} → statement M
-difference-spec = tie.close (tie.spec cast-result cast-result-2 sub-result returns)
+difference-spec =
+    tie.close
+    (tie.spec
+    (λ c. search needs)
+    (λ c. search needs)
+    sub-result
+    returns)

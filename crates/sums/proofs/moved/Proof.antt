@@ -11,18 +11,6 @@ use borrow.Author.Needs.{needs}
 use Rattle.sums.proofs.moved.Statement.{statement}
 use Rattle.sums.proofs.moved.Tie as tie
 
-difference-requires : tie.Need-difference-requires
-difference-requires c κs = search needs
-
-times-requires : tie.Need-times-requires
-times-requires c κs = search needs
-
-residue-requires : tie.Need-residue-requires
-residue-requires c κs = search needs
-
-add-result : tie.Need-add-result
-add-result c = search needs
-
 returns : tie.Need-returns
 returns c =
     let a = c .before .before .before .args in
@@ -36,4 +24,10 @@ returns c =
 
 pub moved-spec : {M : Type 1} → statement M
 moved-spec =
-    tie.close (tie.spec difference-requires times-requires residue-requires add-result returns)
+    tie.close
+    (tie.spec
+    (λ c κs. search needs)
+    (λ c κs. search needs)
+    (λ c κs. search needs)
+    (λ c. search needs)
+    returns)

@@ -6,9 +6,6 @@ use borrow.Author.Needs.{needs}
 use Rattle.sums.proofs.times.Statement.{statement}
 use Rattle.sums.proofs.times.Tie as tie
 
-cast-result : tie.Need-cast-result
-cast-result c = search needs
-
 mul-result : tie.Need-mul-result
 mul-result c = S.product-fits (c .args .d) (c .args .n) (c .pre) (search needs)
 
@@ -16,4 +13,9 @@ returns : tie.Need-returns
 returns c = toZ-ofZ (mul-result c) ∙ S.toZ-product (c .args .d) (c .args .n) (c .pre) (search needs)
 
 pub times-spec : {M : Type 1} → statement M
-times-spec = tie.close (tie.spec cast-result mul-result returns)
+times-spec =
+    tie.close
+    (tie.spec
+    (λ c. search needs)
+    mul-result
+    returns)

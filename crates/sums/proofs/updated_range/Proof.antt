@@ -16,24 +16,6 @@ abbrev μ-loop : tie.MeasureT-loop
 loop-holds : tie.Need-loop-holds Inv-loop μ-loop
 loop-holds c = record { le = search needs; left-is = search needs; sum-is = refl }
 
-shared-slice-read-updated : tie.Need-shared-slice-read-updated Inv-loop μ-loop
-shared-slice-read-updated c = search needs
-
-shared-slice-read-updated-2 : tie.Need-shared-slice-read-updated-2 Inv-loop μ-loop
-shared-slice-read-updated-2 c = search needs
-
-updated-requires : tie.Need-updated-requires Inv-loop μ-loop
-updated-requires c κs = search needs
-
-sub-left : tie.Need-sub-left Inv-loop μ-loop
-sub-left c = search needs
-
-add-i : tie.Need-add-i Inv-loop μ-loop
-add-i c = search needs
-
-loop-less : tie.Need-loop-less Inv-loop μ-loop
-loop-less c = search needs
-
 loop-again : tie.Need-loop-again Inv-loop μ-loop
 loop-again c =
     let s = c .before .before .before .before .before .before .before in
@@ -49,11 +31,11 @@ updated-range-spec =
     Inv-loop
     μ-loop
     loop-holds
-    shared-slice-read-updated
-    shared-slice-read-updated-2
-    updated-requires
-    sub-left
-    add-i
-    loop-less
+    (λ c. search needs)
+    (λ c. search needs)
+    (λ c κs. search needs)
+    (λ c. search needs)
+    (λ c. search needs)
+    (λ c. search needs)
     loop-again
     returns)

@@ -7,18 +7,6 @@ use borrow.Author.Needs.{needs}
 use Rattle.texts.proofs.put_between.Statement.{statement}
 use Rattle.texts.proofs.put_between.Tie as tie
 
-put-bytes-requires : tie.Need-put-bytes-requires
-put-bytes-requires c κs = search needs
-
-put-number-requires : tie.Need-put-number-requires
-put-number-requires c κs = search needs
-
-put-bytes-requires-2 : tie.Need-put-bytes-requires-2
-put-bytes-requires-2 c κs = search needs
-
-same-length : tie.Need-same-length
-same-length c = search needs
-
 returns : tie.Need-returns
 unfolding betweenText
 returns c =
@@ -27,4 +15,9 @@ returns c =
 pub put-between-spec : {M : Type 1} → statement M
 put-between-spec =
     tie.close
-    (tie.spec put-bytes-requires put-number-requires put-bytes-requires-2 same-length returns)
+    (tie.spec
+    (λ c κs. search needs)
+    (λ c κs. search needs)
+    (λ c κs. search needs)
+    (λ c. search needs)
+    returns)

@@ -10,12 +10,6 @@ use Rattle.texts.proofs.put_byte.Tie as tie
 use Rattle.texts.proofs.put_byte.Reads as reads
 use Rattle.texts.proofs.put_byte.Lts as lts
 
-slice-write-out : tie.Need-slice-write-out
-slice-write-out c = search needs
-
-add-result : tie.Need-add-result
-add-result c = search needs
-
 put : (c : lts.Joined1 reads.Pre reads.Post) → Put 1 (c .before .args .out .now) (c .before .args .at) (c .before .args .b ∷ []) (c .if1 .out) (c .before .args .at + 1)
 put c = let a = c .before .args in ⊎-elim (λ w. rw (w .1) (put-in (a .out .now) (a .at) (a .b))) (λ w. rw (w .1) (put-out (a .out .now) (a .at) (a .b) (w .0 .left))) (c .if1 .came)
 
@@ -26,4 +20,10 @@ returns : tie.Need-returns
 returns c = put c
 
 pub put-byte-spec : {M : Type 1} → statement M
-put-byte-spec = tie.close (tie.spec slice-write-out add-result same-length returns)
+put-byte-spec =
+    tie.close
+    (tie.spec
+    (λ c. search needs)
+    (λ c. search needs)
+    same-length
+    returns)

@@ -5,9 +5,6 @@ use borrow.Author.Needs.{needs}
 use Rattle.words.proofs.load8.Statement.{statement}
 use Rattle.words.proofs.load8.Tie as tie
 
-shared-slice-read-result : tie.Need-shared-slice-read-result
-shared-slice-read-result c = search needs
-
 cast-result : tie.Need-cast-result
 cast-result c = omega (arith, c .shared-slice-known .given (c .before .args .at))
 
@@ -15,4 +12,9 @@ returns : tie.Need-returns
 returns c = loaded-byte _ _ (omega (arith, c .shared-slice-known .given (c .before .args .at)))
 
 pub load8-spec : {M : Type 1} → statement M
-load8-spec = tie.close (tie.spec shared-slice-read-result cast-result returns)
+load8-spec =
+    tie.close
+    (tie.spec
+    (λ c. search needs)
+    cast-result
+    returns)

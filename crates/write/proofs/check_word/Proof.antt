@@ -13,43 +13,16 @@ read-head-requires c κs =
     let s = c .before .before .before in
     (s .pre .0, s .pre .1 .even, omega (arith, s .pre .1 .inside, length-seen (s .args .pool .now) (s .args .staging .now) (s .args .count)))
 
-add-left : tie.Need-add-left
-add-left c = search needs
-
-add-left-2 : tie.Need-add-left-2
-add-left-2 c = search needs
-
-sub-left : tie.Need-sub-left
-sub-left c = search needs
-
-check-requires : tie.Need-check-requires
-check-requires c κs = search needs
-
-add-new-check : tie.Need-add-new-check
-add-new-check c = search needs
-
 add-new-check-2 : tie.Need-add-new-check-2
 add-new-check-2 c =
     let s = c .before .before .before .before .before in
     omega (arith, s .pre .1 .inside, s .pre .1 .within, length-seen (s .args .pool .now) (s .args .staging .now) (s .args .count))
-
-cast-new-check : tie.Need-cast-new-check
-cast-new-check c = search needs
 
 new-check-requires : tie.Need-new-check-requires
 new-check-requires c κs =
     let s = c .before .before .before .before .before in
     let l = length-seen (s .args .pool .now) (s .args .staging .now) (s .args .count) in
     (s .pre .0, omega (arith, s .pre .1 .inside, s .pre .1 .within), omega (arith, s .pre .1 .within))
-
-mul-result : tie.Need-mul-result
-mul-result c = search needs
-
-cast-result : tie.Need-cast-result
-cast-result c = search needs
-
-add-result : tie.Need-add-result
-add-result c = search needs
 
 returns : tie.Need-returns
 returns c =
@@ -65,15 +38,15 @@ check-word-spec =
     tie.close
     (tie.spec
     read-head-requires
-    add-left
-    add-left-2
-    sub-left
-    check-requires
-    add-new-check
+    (λ c. search needs)
+    (λ c. search needs)
+    (λ c. search needs)
+    (λ c κs. search needs)
+    (λ c. search needs)
     add-new-check-2
-    cast-new-check
+    (λ c. search needs)
     new-check-requires
-    mul-result
-    cast-result
-    add-result
+    (λ c. search needs)
+    (λ c. search needs)
+    (λ c. search needs)
     returns)

@@ -13,23 +13,11 @@ entries-added-requires c κs =
     let s = c .before .before .before .before in
     (s .pre .0 .room, omega (arith, s .pre .1 .inside, s .pre .1 .within, length-seen (s .args .pool .now) (s .args .staging .now) (s .args .count)), s .pre .0 .tidy)
 
-add-if1 : tie.Need-add-if1
-add-if1 c = search needs
-
-same-length : tie.Need-same-length
-same-length c = search needs
-
 returns : tie.Need-returns
 returns c =
     let s = c .before .before .before .before .before .before in
     let a = s .args in
     write-many (seen (a .pool .now) (a .staging .now) (a .count)) (a .staging .now) (a .count) (a .h) (a .m) (a .at) (a .bytes .now) (s .pre .1 .even) (c .before .entries-added .ensures .0) (c .if1 .taken)
-
-touch-write-requires : tie.Need-touch-write-requires
-touch-write-requires c κs = search needs
-
-same-length-2 : tie.Need-same-length-2
-same-length-2 c = search needs
 
 returns-2 : tie.Need-returns-2
 returns-2 c =
@@ -44,9 +32,9 @@ stage-write-spec =
     tie.close
     (tie.spec
     entries-added-requires
-    add-if1
-    same-length
+    (λ c. search needs)
+    (λ c. search needs)
     returns
-    touch-write-requires
-    same-length-2
+    (λ c κs. search needs)
+    (λ c. search needs)
     returns-2)

@@ -6,9 +6,6 @@ use borrow.Author.Needs.{needs}
 use Rattle.write.proofs.touch_write.Statement.{statement}
 use Rattle.write.proofs.touch_write.Tie as tie
 
-check-word-requires : tie.Need-check-word-requires
-check-word-requires c κs = search needs
-
 add-touch : tie.Need-add-touch
 add-touch c =
     let s = c .before .before .before .before .before .before in
@@ -16,9 +13,6 @@ add-touch c =
 
 touch-requires : tie.Need-touch-requires
 touch-requires c κs = check-room (c .before .before .before .before .before .before .pre .2)
-
-add-touch-range : tie.Need-add-touch-range
-add-touch-range c = search needs
 
 add-touch-range-2 : tie.Need-add-touch-range-2
 add-touch-range-2 c =
@@ -30,9 +24,6 @@ touch-range-requires c κs =
     let s = c .before .before .before .before .before .before .before .before .before .before in
     range-ready (s .args .h) (search needs) (c .before .before .before .touch .ensures) (s .pre .0) (s .pre .1) (s .pre .2)
 
-same-length : tie.Need-same-length
-same-length c = search needs
-
 returns : tie.Need-returns
 returns c =
     let s = c .before .before .before .before .before .before .before .before .before .before .before .before .before in
@@ -43,11 +34,11 @@ pub touch-write-spec : {M : Type 1} → statement M
 touch-write-spec =
     tie.close
     (tie.spec
-    check-word-requires
+    (λ c κs. search needs)
     add-touch
     touch-requires
-    add-touch-range
+    (λ c. search needs)
     add-touch-range-2
     touch-range-requires
-    same-length
+    (λ c. search needs)
     returns)

@@ -9,21 +9,6 @@ use borrow.Author.Needs.{needs}
 use Rattle.write.proofs.write.Statement.{statement}
 use Rattle.write.proofs.write.Tie as tie
 
-object-at-requires : tie.Need-object-at-requires
-object-at-requires c κs = search needs
-
-enum-known-n : tie.Need-enum-known-n
-enum-known-n c = search needs
-
-enum-known-m : tie.Need-enum-known-m
-enum-known-m c = search needs
-
-outside-requires : tie.Need-outside-requires
-outside-requires c κs = search needs
-
-same-length : tie.Need-same-length
-same-length c = search needs
-
 returns : tie.Need-returns
 returns c =
     let s = c .before .before .before .before .before .before .before .before .before .before in
@@ -44,17 +29,11 @@ stage-write-requires c κs =
     let r = write-range (shapeOf (s .args .s)) (s .args .pool .now) (s .args .staging .now) (s .args .count) (s .args .a) (s .args .at) (s .args .bytes .now) (f .result) (f .ensures) (c .before .before .before .before .before .m .given .1) (c .before .before .before .outside .ensures) (c .before .before .if1 .left) (cells-some (s .args .s) (g .range)) (head-even (s .args .s) (g .range) (s .args .a)) in
     (s .pre .staged, rw (c .head-at .ensures) r, s .pre .few, s .pre .room, omega (arith, g .size, size-bounds (s .args .s) (g .range)))
 
-same-length-2 : tie.Need-same-length-2
-same-length-2 c = search needs
-
 returns-2 : tie.Need-returns-2
 returns-2 c =
     let s = c .before .before .before .before .before .before .before .before in
     let f = c .before .before .before .object-at in
     write-refused (shapeOf (s .args .s)) (s .args .pool .now) (s .args .staging .now) (s .args .count) (s .args .a) (s .args .at) (s .args .bytes .now) (f .result) (f .ensures) (c .before .n .given .1)
-
-same-length-3 : tie.Need-same-length-3
-same-length-3 c = search needs
 
 returns-3 : tie.Need-returns-3
 returns-3 c =
@@ -67,15 +46,15 @@ pub write-spec : {M : Type 1} → statement M
 write-spec =
     tie.close
     (tie.spec
-    object-at-requires
-    enum-known-n
-    enum-known-m
-    outside-requires
-    same-length
+    (λ c κs. search needs)
+    (λ c. search needs)
+    (λ c. search needs)
+    (λ c κs. search needs)
+    (λ c. search needs)
     returns
     head-at-requires
     stage-write-requires
-    same-length-2
+    (λ c. search needs)
     returns-2
-    same-length-3
+    (λ c. search needs)
     returns-3)

@@ -6,23 +6,8 @@ use borrow.Author.Needs.{needs}
 use Rattle.zones.proofs.body_at.Statement.{statement}
 use Rattle.zones.proofs.body_at.Tie as tie
 
-sub-object-at : tie.Need-sub-object-at
-sub-object-at c = search needs
-
-part-object-at-start : tie.Need-part-object-at-start
-part-object-at-start c = search needs
-
-part-object-at-end : tie.Need-part-object-at-end
-part-object-at-end c = search needs
-
 object-at-requires : tie.Need-object-at-requires
 object-at-requires c κs = (staged-none (c .before .before .args .s) (c .before .before .pre) _, c .before .before .pre)
-
-enum-known-n : tie.Need-enum-known-n
-enum-known-n c = search needs
-
-enum-known-m : tie.Need-enum-known-m
-enum-known-m c = search needs
 
 head-at-requires : tie.Need-head-at-requires
 head-at-requires c κs = let s = c .before .before .before .before .before .before in let f = c .before .before .before .object-at in (s .pre .range, body-below (s .args .s) (s .pre) _ _ (f .result) (f .ensures) (c .before .m .given .1))
@@ -40,12 +25,12 @@ pub body-at-spec : {M : Type 1} → statement M
 body-at-spec =
     tie.close
     (tie.spec
-    sub-object-at
-    part-object-at-start
-    part-object-at-end
+    (λ c. search needs)
+    (λ c. search needs)
+    (λ c. search needs)
     object-at-requires
-    enum-known-n
-    enum-known-m
+    (λ c. search needs)
+    (λ c. search needs)
     head-at-requires
     add-t13
     returns

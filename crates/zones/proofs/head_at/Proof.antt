@@ -9,9 +9,6 @@ use borrow.Author.Needs.{needs}
 use Rattle.zones.proofs.head_at.Statement.{statement}
 use Rattle.zones.proofs.head_at.Tie as tie
 
-cells-requires : tie.Need-cells-requires
-cells-requires c κs = search needs
-
 div-zone-at : tie.Need-div-zone-at
 div-zone-at c = omega (arith, cells-some (c .before .args .s) (c .before .pre .0), c .cells .ensures .0)
 
@@ -41,4 +38,11 @@ returns c = rw (c .zone-at .ensures .0, c .before .cells .ensures .0)
 pub head-at-spec : {M : Type 1} → statement M
 head-at-spec =
     tie.close
-    (tie.spec cells-requires div-zone-at zone-at-requires rem-result mul-result add-result returns)
+    (tie.spec
+    (λ c κs. search needs)
+    div-zone-at
+    zone-at-requires
+    rem-result
+    mul-result
+    add-result
+    returns)

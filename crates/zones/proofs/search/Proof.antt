@@ -53,9 +53,6 @@ advance-requires c κs = let l = c .before .loop in (c .before .before .before .
 returns : tie.Need-returns Inv-loop μ-loop Inv-search μ-search
 returns c = walking-broken (c .before .before .before .loop .inv .0) (c .before .before .loop-test .taken) (c .before .advance .ensures .0) (c .if1 .taken)
 
-fits-requires : tie.Need-fits-requires Inv-loop μ-loop Inv-search μ-search
-fits-requires c κs = search needs
-
 -- the run that was met
 passed : (c : tie.Else1 Inv-loop μ-loop Inv-search μ-search)
     → let s = c .before .before .before .before .before .before .before .before .before in
@@ -89,12 +86,6 @@ loop-again c =
     let l = h .before .before .before .loop in
     (walking-step (l .inv .0) (passed h) (inside-pass _ _ _ (passed h) (c .before .fits2 .ensures) (c .if2 .left)), clear-later (omega arith) (h .before .advance .ensures .1), l .inv .2)
 
-add-z : tie.Need-add-z Inv-loop μ-loop Inv-search μ-search
-add-z c = search needs
-
-search-less : tie.Need-search-less Inv-loop μ-loop Inv-search μ-search
-search-less c = search needs
-
 search-again : tie.Need-search-again Inv-loop μ-loop Inv-search μ-search
 search-again c = inside-end _ _ (walking-end (c .before .loop .inv .0) (c .loop-test .left))
 
@@ -124,15 +115,15 @@ search-spec =
     loop-holds
     advance-requires
     returns
-    fits-requires
+    (λ c κs. search needs)
     add-whole-from
     whole-from-requires
     returns-2
     add-c
     loop-less
     loop-again
-    add-z
-    search-less
+    (λ c. search needs)
+    (λ c. search needs)
     search-again
     returns-3
     returns-4)

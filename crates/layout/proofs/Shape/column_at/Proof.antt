@@ -12,8 +12,10 @@ mul-byte-at c = let s = c .before in omega (arith, bounds (s .args .self) (s .pr
 byte-at-requires : tie.Need-byte-at-requires
 byte-at-requires c κs = let s = c .before in (s .pre .0, s .pre .1, omega arith, column-below (shapeOf (s .args .self)) (shape-good (s .args .self) (s .pre .0)) (s .args .c) (s .pre .2))
 
-returns : tie.Need-returns
-returns c = search needs
-
 pub column-at-spec : {M : Type 1} → statement M
-column-at-spec = tie.close (tie.spec mul-byte-at byte-at-requires returns)
+column-at-spec =
+    tie.close
+    (tie.spec
+    mul-byte-at
+    byte-at-requires
+    (λ c. search needs))

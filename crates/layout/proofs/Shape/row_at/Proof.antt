@@ -6,23 +6,11 @@ use Rattle.layout.proofs.Range.{bounds, place-in, place-row, shape-good
 use Rattle.layout.proofs.Shape.row_at.Statement.{statement}
 use Rattle.layout.proofs.Shape.row_at.Tie as tie
 
-row-size-requires : tie.Need-row-size-requires
-row-size-requires c κs = search needs
-
-zones-at-requires : tie.Need-zones-at-requires
-zones-at-requires c κs = search needs
-
-sub-o : tie.Need-sub-o
-sub-o c = search needs
-
 div-byte-at : tie.Need-div-byte-at
 div-byte-at c = let s = c .before .before in omega (arith, bounds (s .args .self) (s .pre .0), c .before .row-size .ensures)
 
 add-byte-at : tie.Need-add-byte-at
 add-byte-at c = let s = c .before .before .before in omega (arith, bounds (s .args .self) (s .pre .0))
-
-div-byte-at-2 : tie.Need-div-byte-at-2
-div-byte-at-2 c = search needs
 
 rem-byte-at : tie.Need-rem-byte-at
 rem-byte-at c = let s = c .before .before .before in omega (arith, bounds (s .args .self) (s .pre .0), c .before .before .row-size .ensures)
@@ -39,4 +27,15 @@ returns c =
     place-row (shapeOf (s .args .self)) (shape-good (s .args .self) (s .pre .0)) (s .args .t) (s .args .r) _ _ _ (c .before .before .before .row-size .ensures) (c .before .before .zones-at .ensures) (c .byte-at .ensures)
 
 pub row-at-spec : {M : Type 1} → statement M
-row-at-spec = tie.close (tie.spec row-size-requires zones-at-requires sub-o div-byte-at add-byte-at div-byte-at-2 rem-byte-at byte-at-requires returns)
+row-at-spec =
+    tie.close
+    (tie.spec
+    (λ c κs. search needs)
+    (λ c κs. search needs)
+    (λ c. search needs)
+    div-byte-at
+    add-byte-at
+    (λ c. search needs)
+    rem-byte-at
+    byte-at-requires
+    returns)

@@ -7,18 +7,6 @@ use borrow.Author.Needs.{needs}
 use Rattle.pool_c.proofs.pools.pool_look.Statement.{statement}
 use Rattle.pool_c.proofs.pools.pool_look.Tie as tie
 
-look-for-requires : tie.Need-look-for-requires
-look-for-requires c κs = search needs
-
-enum-known-n : tie.Need-enum-known-n
-enum-known-n c = search needs
-
-cast-t8 : tie.Need-cast-t8
-cast-t8 c = search needs
-
-enum-known-offset : tie.Need-enum-known-offset
-enum-known-offset c = search needs
-
 returns : tie.Need-returns
 returns c = ap (λ (x : Body). partOut (lookOf x)) (sym (c .before .n .given .1)) ∙ ap partOut (c .before .before .before .look-for .ensures .0)
 
@@ -27,4 +15,11 @@ returns-2 c = ap (λ (x : Body). partOut (lookOf x)) (sym (c .before .offset .gi
 
 pub pool-look-spec : {M : Type 1} → statement M
 pool-look-spec =
-    tie.close (tie.spec look-for-requires enum-known-n cast-t8 enum-known-offset returns returns-2)
+    tie.close
+    (tie.spec
+    (λ c κs. search needs)
+    (λ c. search needs)
+    (λ c. search needs)
+    (λ c. search needs)
+    returns
+    returns-2)

@@ -7,18 +7,6 @@ use borrow.Author.Needs.{needs}
 use Rattle.pool_c.proofs.pools.pool_scrub.Statement.{statement}
 use Rattle.pool_c.proofs.pools.pool_scrub.Tie as tie
 
-scrub-requires : tie.Need-scrub-requires
-scrub-requires c κs = search needs
-
-enum-known-n : tie.Need-enum-known-n
-enum-known-n c = search needs
-
-cast-t9 : tie.Need-cast-t9
-cast-t9 c = search needs
-
-enum-known-objects : tie.Need-enum-known-objects
-enum-known-objects c = search needs
-
 returns : tie.Need-returns
 returns c = ap (λ (x : Scrubbed). countsOut (scrubOf x)) (sym (c .before .n .given .1)) ∙ ap countsOut (c .before .before .before .scrub .ensures)
 
@@ -27,4 +15,11 @@ returns-2 c = ap (λ (x : Scrubbed). countsOut (scrubOf x)) (sym (c .before .obj
 
 pub pool-scrub-spec : {M : Type 1} → statement M
 pool-scrub-spec =
-    tie.close (tie.spec scrub-requires enum-known-n cast-t9 enum-known-objects returns returns-2)
+    tie.close
+    (tie.spec
+    (λ c κs. search needs)
+    (λ c. search needs)
+    (λ c. search needs)
+    (λ c. search needs)
+    returns
+    returns-2)

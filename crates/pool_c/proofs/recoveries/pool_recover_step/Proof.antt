@@ -7,20 +7,11 @@ use borrow.Author.Needs.{needs}
 use Rattle.pool_c.proofs.recoveries.pool_recover_step.Statement.{statement}
 use Rattle.pool_c.proofs.recoveries.pool_recover_step.Tie as tie
 
-decoded-requires : tie.Need-decoded-requires
-decoded-requires c κs = search needs
-
-step-requires : tie.Need-step-requires
-step-requires c κs = search needs
-
 encoded-requires : tie.Need-encoded-requires
 encoded-requires c κs =
     let s = c .before .before .before .before .before .before .args in
     let x = c .before .before .step in
     recovery-after-fits (x .result) _ (x .ensures ∙ ap (recoveryStep (s .pool .now)) (c .before .before .before .before .decoded .ensures)) (recovery-step-fits _ _ (recovery-in-fits (s .recovery) (search needs) (search needs)))
-
-same-length : tie.Need-same-length
-same-length c = search needs
 
 returns : tie.Need-returns
 returns c =
@@ -30,4 +21,10 @@ returns c =
 
 pub pool-recover-step-spec : {M : Type 1} → statement M
 pool-recover-step-spec =
-    tie.close (tie.spec decoded-requires step-requires encoded-requires same-length returns)
+    tie.close
+    (tie.spec
+    (λ c κs. search needs)
+    (λ c κs. search needs)
+    encoded-requires
+    (λ c. search needs)
+    returns)

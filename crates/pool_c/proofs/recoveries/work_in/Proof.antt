@@ -4,18 +4,6 @@ use borrow.Author.Needs.{needs}
 use Rattle.pool_c.proofs.recoveries.work_in.Statement.{statement}
 use Rattle.pool_c.proofs.recoveries.work_in.Tie as tie
 
-returns : tie.Need-returns
-returns c = search needs
-
-returns-2 : tie.Need-returns-2
-returns-2 c = search needs
-
-returns-3 : tie.Need-returns-3
-returns-3 c = search needs
-
-sub-m : tie.Need-sub-m
-sub-m c = search needs
-
 returns-4 : tie.Need-returns-4
 returns-4 c = work-in-a _ (c .before .before .before .if1 .left) (c .before .before .if2 .left) (c .before .if3 .left) (c .if4 .taken)
 
@@ -23,4 +11,12 @@ returns-5 : tie.Need-returns-5
 returns-5 c = work-in-b _ (c .before .before .before .if1 .left) (c .before .before .if2 .left) (c .before .if3 .left) (c .if4 .left)
 
 pub work-in-spec : {M : Type 1} → statement M
-work-in-spec = tie.close (tie.spec returns returns-2 returns-3 sub-m returns-4 returns-5)
+work-in-spec =
+    tie.close
+    (tie.spec
+    (λ c. search needs)
+    (λ c. search needs)
+    (λ c. search needs)
+    (λ c. search needs)
+    returns-4
+    returns-5)

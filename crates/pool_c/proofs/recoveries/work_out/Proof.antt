@@ -5,41 +5,17 @@ use borrow.Author.Needs.{needs}
 use Rattle.pool_c.proofs.recoveries.work_out.Statement.{statement}
 use Rattle.pool_c.proofs.recoveries.work_out.Tie as tie
 
-enum-told : tie.Need-enum-told
-enum-told c = search needs
-
-enum-told-2 : tie.Need-enum-told-2
-enum-told-2 c = search needs
-
-enum-told-3 : tie.Need-enum-told-3
-enum-told-3 c = search needs
-
-enum-known-work : tie.Need-enum-known-work
-enum-known-work c = search needs
-
 mul-result : tie.Need-mul-result
 mul-result c = record { fits = omega (arith, work-room-a (c .before .work .given .1) (c .before .before .before .pre)) }
 
 add-result : tie.Need-add-result
 add-result c = record { fits = work-room-a (c .before .work .given .1) (c .before .before .before .pre) }
 
-enum-known-work-2 : tie.Need-enum-known-work-2
-enum-known-work-2 c = search needs
-
 mul-result-2 : tie.Need-mul-result-2
 mul-result-2 c = record { fits = omega (arith, work-room-b (c .before .work2 .given .1) (c .before .before .before .pre)) }
 
 add-result-2 : tie.Need-add-result-2
 add-result-2 c = record { fits = work-room-b (c .before .work2 .given .1) (c .before .before .before .pre) }
-
-returns : tie.Need-returns
-returns c = search needs
-
-returns-2 : tie.Need-returns-2
-returns-2 c = search needs
-
-returns-3 : tie.Need-returns-3
-returns-3 c = search needs
 
 returns-4 : tie.Need-returns-4
 returns-4 c = work-out-a (c .before .work .given .1)
@@ -51,17 +27,17 @@ pub work-out-spec : {M : Type 1} → statement M
 work-out-spec =
     tie.close
     (tie.spec
-    enum-told
-    enum-told-2
-    enum-told-3
-    enum-known-work
+    (λ c. search needs)
+    (λ c. search needs)
+    (λ c. search needs)
+    (λ c. search needs)
     mul-result
     add-result
-    enum-known-work-2
+    (λ c. search needs)
     mul-result-2
     add-result-2
-    returns
-    returns-2
-    returns-3
+    (λ c. search needs)
+    (λ c. search needs)
+    (λ c. search needs)
     returns-4
     returns-5)

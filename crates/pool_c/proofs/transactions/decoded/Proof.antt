@@ -3,11 +3,12 @@ use borrow.Author.Needs.{needs}
 use Rattle.pool_c.proofs.transactions.decoded.Statement.{statement}
 use Rattle.pool_c.proofs.transactions.decoded.Tie as tie
 
-phase-in-requires : tie.Need-phase-in-requires
-phase-in-requires c κs = search needs
-
 returns : tie.Need-returns
 returns c = rw (c .phase-in .ensures)
 
 pub decoded-spec : {M : Type 1} → statement M
-decoded-spec = tie.close (tie.spec phase-in-requires returns)
+decoded-spec =
+    tie.close
+    (tie.spec
+    (λ c κs. search needs)
+    returns)

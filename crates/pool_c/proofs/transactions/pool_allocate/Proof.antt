@@ -4,21 +4,18 @@ use borrow.Author.Needs.{needs}
 use Rattle.pool_c.proofs.transactions.pool_allocate.Statement.{statement}
 use Rattle.pool_c.proofs.transactions.pool_allocate.Tie as tie
 
-decoded-requires : tie.Need-decoded-requires
-decoded-requires c κs = search needs
-
-allocate-requires : tie.Need-allocate-requires
-allocate-requires c κs = search needs
-
 encoded-requires : tie.Need-encoded-requires
 encoded-requires c κs = search (needs, call-after-fits)
-
-same-length : tie.Need-same-length
-same-length c = search needs
 
 returns : tie.Need-returns
 returns c = search (needs, call-after-out)
 
 pub pool-allocate-spec : {M : Type 1} → statement M
 pool-allocate-spec =
-    tie.close (tie.spec decoded-requires allocate-requires encoded-requires same-length returns)
+    tie.close
+    (tie.spec
+    (λ c κs. search needs)
+    (λ c κs. search needs)
+    encoded-requires
+    (λ c. search needs)
+    returns)

@@ -6,12 +6,6 @@ use borrow.Author.Needs.{needs}
 use Rattle.pool_c.proofs.transactions.pool_commit.Statement.{statement}
 use Rattle.pool_c.proofs.transactions.pool_commit.Tie as tie
 
-decoded-requires : tie.Need-decoded-requires
-decoded-requires c κs = search needs
-
-commit-requires : tie.Need-commit-requires
-commit-requires c κs = search needs
-
 encoded-requires : tie.Need-encoded-requires
 encoded-requires c κs = search (needs, after-fits commitStart, start-fits)
 
@@ -19,4 +13,10 @@ returns : tie.Need-returns
 returns c = search (needs, after-out commitStart)
 
 pub pool-commit-spec : {M : Type 1} → statement M
-pool-commit-spec = tie.close (tie.spec decoded-requires commit-requires encoded-requires returns)
+pool-commit-spec =
+    tie.close
+    (tie.spec
+    (λ c κs. search needs)
+    (λ c κs. search needs)
+    encoded-requires
+    returns)

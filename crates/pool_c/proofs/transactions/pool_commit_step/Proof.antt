@@ -6,21 +6,18 @@ use borrow.Author.Needs.{needs}
 use Rattle.pool_c.proofs.transactions.pool_commit_step.Statement.{statement}
 use Rattle.pool_c.proofs.transactions.pool_commit_step.Tie as tie
 
-decoded-requires : tie.Need-decoded-requires
-decoded-requires c κs = search needs
-
-step-requires : tie.Need-step-requires
-step-requires c κs = search needs
-
 encoded-requires : tie.Need-encoded-requires
 encoded-requires c κs = search (needs, after-fits commitStep, step-fits)
-
-same-length : tie.Need-same-length
-same-length c = search needs
 
 returns : tie.Need-returns
 returns c = search (needs, after-out commitStep)
 
 pub pool-commit-step-spec : {M : Type 1} → statement M
 pool-commit-step-spec =
-    tie.close (tie.spec decoded-requires step-requires encoded-requires same-length returns)
+    tie.close
+    (tie.spec
+    (λ c κs. search needs)
+    (λ c κs. search needs)
+    encoded-requires
+    (λ c. search needs)
+    returns)

@@ -6,20 +6,8 @@ use Rattle.recovery.proofs.Recovery.start.Statement.{statement}
 use Rattle.recovery.proofs.Recovery.start.Tie as tie
 use Rattle.layout.proofs.Opening.{open-shaped}
 
-open-requires : tie.Need-open-requires
-open-requires c κs = search needs
-
-enum-known-n : tie.Need-enum-known-n
-enum-known-n c = search needs
-
-enum-known-s : tie.Need-enum-known-s
-enum-known-s c = search needs
-
 find-requires : tie.Need-find-requires
 find-requires c κs = open-shaped _ _ (sym (c .before .before .before .«open» .ensures) ∙ c .before .s .given .1)
-
-begin-requires : tie.Need-begin-requires
-begin-requires c κs = search needs
 
 returns : tie.Need-returns
 returns c = start-refused _ _ (sym (c .before .before .before .«open» .ensures) ∙ c .before .n .given .1)
@@ -31,10 +19,10 @@ pub start-spec : {M : Type 1} → statement M
 start-spec =
     tie.close
     (tie.spec
-    open-requires
-    enum-known-n
-    enum-known-s
+    (λ c κs. search needs)
+    (λ c. search needs)
+    (λ c. search needs)
     find-requires
-    begin-requires
+    (λ c κs. search needs)
     returns
     returns-2)

@@ -6,26 +6,11 @@ use Rattle.recovery.proofs.Recovery.step.Statement.{statement}
 use Rattle.recovery.proofs.Recovery.step.Tie as tie
 use Rattle.layout.proofs.Opening.{open-shaped}
 
-open-requires : tie.Need-open-requires
-open-requires c κs = search needs
-
-enum-known-n : tie.Need-enum-known-n
-enum-known-n c = search needs
-
-enum-known-s : tie.Need-enum-known-s
-enum-known-s c = search needs
-
 advance-requires : tie.Need-advance-requires
 advance-requires c κs = open-shaped _ _ (sym (c .before .before .before .before .«open» .ensures) ∙ c .before .before .s .given .1)
 
-same-length : tie.Need-same-length
-same-length c = search needs
-
 returns : tie.Need-returns
 returns c = step-refused _ _ _ (sym (c .before .before .before .«open» .ensures) ∙ c .before .n .given .1)
-
-same-length-2 : tie.Need-same-length-2
-same-length-2 c = search needs
 
 returns-2 : tie.Need-returns-2
 returns-2 c = c .before .before .advance .ensures ∙ step-advanced _ _ _ (sym (c .before .before .before .before .before .before .before .«open» .ensures) ∙ c .before .before .before .before .before .s .given .1)
@@ -34,11 +19,11 @@ pub step-spec : {M : Type 1} → statement M
 step-spec =
     tie.close
     (tie.spec
-    open-requires
-    enum-known-n
-    enum-known-s
+    (λ c κs. search needs)
+    (λ c. search needs)
+    (λ c. search needs)
     advance-requires
-    same-length
+    (λ c. search needs)
     returns
-    same-length-2
+    (λ c. search needs)
     returns-2)

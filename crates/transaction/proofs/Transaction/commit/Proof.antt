@@ -4,24 +4,6 @@ use borrow.Author.Needs.{needs}
 use Rattle.transaction.proofs.Transaction.commit.Statement.{statement}
 use Rattle.transaction.proofs.Transaction.commit.Tie as tie
 
-ready-requires : tie.Need-ready-requires
-ready-requires c κs = search needs
-
-enum-known-n : tie.Need-enum-known-n
-enum-known-n c = search needs
-
-refused-requires : tie.Need-refused-requires
-refused-requires c κs = search needs
-
-enum-told : tie.Need-enum-told
-enum-told c = search needs
-
-start-requires : tie.Need-start-requires
-start-requires c κs = search needs
-
-stepped-requires : tie.Need-stepped-requires
-stepped-requires c κs = search needs
-
 returns : tie.Need-returns
 returns c = refused-back _ _ _ (start-meets _) (c .before .before .before .before .ready .ensures) (c .before .before .n .given .1) (c .refused .ensures)
 
@@ -32,11 +14,11 @@ pub commit-spec : {M : Type 1} → statement M
 commit-spec =
     tie.close
     (tie.spec
-    ready-requires
-    enum-known-n
-    refused-requires
-    enum-told
-    start-requires
-    stepped-requires
+    (λ c κs. search needs)
+    (λ c. search needs)
+    (λ c κs. search needs)
+    (λ c. search needs)
+    (λ c κs. search needs)
+    (λ c κs. search needs)
     returns
     returns-2)

@@ -182,10 +182,10 @@ impl Instruction {
             "mov", "add", "sub", "adc", "sbb", "and", "or", "xor", "not", "neg", "inc", "dec", "shl", "shr", "sar", "rol", "ror", "imul",
             "lea",
         ];
-        const LAST_ONLY: [&str; 27] = [
+        const LAST_ONLY: [&str; 28] = [
             "movabs", "movslq", "movsbl", "movsbq", "movswl", "movswq", "movzbl", "movzbq", "movzwl", "movzwq", "movd", "movups", "movaps",
             "movdqu", "movdqa", "movhps", "movlps", "movhpd", "movlpd", "pxor", "por", "pand", "xorps", "orps", "pshufd", "pcmpeqb",
-            "pmovmskb",
+            "pmovmskb", "tzcnt",
         ];
         let stem = self.name.strip_suffix(['b', 'w', 'l', 'q']).unwrap_or("");
         let sized = |names: &[&str]| self.is(names) || names.contains(&stem);

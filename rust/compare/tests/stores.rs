@@ -49,7 +49,7 @@ fn a_recovery_step_stores_one_word() {
 fn more_stores_are_seen() {
     let functions = functions(linked::ARCHIVE);
     assert!(effects(&functions, "pool_allocate").others.len() > 1);
-    for (function, callee) in [("pool_format", "memset"), ("pool_mend", "memcpy")] {
+    for (function, callee) in [("pool_format", "memset"), ("pool_repair", "memcpy")] {
         assert!(effects(&functions, function).calls.iter().any(|(name, _)| name == callee), "{function} calls {callee}");
         assert!(!functions.contains_key(callee));
     }

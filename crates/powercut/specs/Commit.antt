@@ -1,5 +1,5 @@
--- Commit by steps (01, "Commit, cut, recovery"): its start and one step, for all inputs. Assumes nothing.
-use Prim.Native.Nat.{ℕ, zero, suc}
+-- Commit by steps (01, "Commit, cut, recovery"): its start, one step, and all steps up to the next barrier, for all inputs. Assumes nothing.
+use Prim.Native.Nat.{ℕ, zero, suc, _-_}
 use mathlib.Core.Bool.{Bool, true, false, not, _&&_, cond}
 use mathlib.Core.List.{List, [], _∷_, _++_}
 use lib.Dec.{eqb}
@@ -8,7 +8,7 @@ use Rattle.rules.specs.Test.{Test, first, when}
 use Rattle.rules.specs.Header.{shapeIn}
 use Rattle.rules.specs.Seals.{unsealed}
 use Rattle.rules.specs.Staging.{Phase, closed, committing, live}
-use Rattle.rules.specs.Answer.{After, Answer, Given, conclude, done, passed, started, stored}
+use Rattle.rules.specs.Answer.{After, Answer, Given, address, conclude, done, passed, refused, started, stored, taken}
 use Rattle.rules.specs.Calls.{entriesIn, liveTests, recordTests}
 use Rattle.powercut.specs.Steps.{Step, barrier, commitSteps, parity, stepPool, store}
 
@@ -72,3 +72,24 @@ commitStep g = conclude g (first (commitTests g)) (record {
     txn = record { count = g .txn .count; phase = nextPhase (placeIn (g .txn .phase)) (length (commitList g)) };
   };
 })
+
+-- ---- Up to the next barrier.
+
+-- A store was made, and it was not the last step.
+unfoldable pub isStored : Answer → Bool
+isStored (address a) = false
+isStored taken = false
+isStored started = false
+isStored (stored k) = true
+isStored (passed k) = false
+isStored (done k) = false
+isStored (refused n) = false
+
+-- At most m steps more: as long as the last one answered stored, the next one.
+unfoldable pub commitMore : ℕ → After → After
+commitMore zero x = x
+commitMore (suc m) x = cond (isStored (x .answer)) (commitMore m (commitStep (x .left))) x
+
+-- A step; as long as it answers stored, the next one, of those that the list has left. It stops at a barrier, at done or at a refusal.
+unfoldable pub commitOn : Given → After
+commitOn g = commitMore (length (commitList g) - suc (placeIn (g .txn .phase))) (commitStep g)

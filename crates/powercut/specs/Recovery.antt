@@ -1,5 +1,6 @@
--- Recovery by steps (01, "Commit, cut, recovery"): its record, its start and one step, for all inputs. Assumes nothing.
-use Prim.Native.Nat.{ℕ, suc, _+_, _*_}
+-- Recovery by steps (01, "Commit, cut, recovery"): its record, its start, one step, and all steps up to the next
+-- barrier, for all inputs. Assumes nothing.
+use Prim.Native.Nat.{ℕ, zero, suc, _+_, _-_, _*_}
 use mathlib.Core.Bool.{Bool, true, false, not, _&&_, _||_, cond}
 use mathlib.Core.Option.{Option, none, some}
 use mathlib.Core.List.{List, [], _∷_, _++_}
@@ -12,7 +13,7 @@ use Rattle.rules.specs.Header.{openTests, shapeIn}
 use Rattle.rules.specs.Answer.{Answer, done, started, refused}
 use Rattle.powercut.specs.Log.{countIn, logAt, valid}
 use Rattle.powercut.specs.Steps.{Remedy, Step, barrier, clear, neither, nothing, recoverySteps, remedy, replay, stepPool}
-use Rattle.powercut.specs.Commit.{stepAnswer}
+use Rattle.powercut.specs.Commit.{isStored, stepAnswer}
 
 pub data Progress : Type 0 where
   recovering : ℕ → Progress
@@ -97,3 +98,14 @@ recoveryStep p r = concludeRecovery p r (first (recoveryTests p r)) (record {
   pool = stepPool (shapeIn p) (recoveryNext p r) p;
   recovery = record { work = r .work; phase = nextProgress (doneSteps (r .phase)) (length (recoveryList p r)) };
 })
+
+-- ---- Up to the next barrier.
+
+-- At most m steps more: as long as the last one answered stored, the next one.
+unfoldable pub recoveryMore : ℕ → RecoveryAfter → RecoveryAfter
+recoveryMore zero x = x
+recoveryMore (suc m) x = cond (isStored (x .answer)) (recoveryMore m (recoveryStep (x .pool) (x .recovery))) x
+
+-- A step; as long as it answers stored, the next one, of those that the list has left. It stops at a barrier, at done or at a refusal.
+unfoldable pub recoveryOn : List ℕ → Recovery → RecoveryAfter
+recoveryOn p r = recoveryMore (length (recoveryList p r) - suc (doneSteps (r .phase))) (recoveryStep p r)

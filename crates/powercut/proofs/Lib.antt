@@ -1,5 +1,6 @@
 pub mod BenchRun
 pub mod BenchVectors
+pub mod Between
 pub mod StepRun
 pub mod FinalPool
 pub mod Logs

@@ -15,6 +15,7 @@ pub mod StepPool
 pub mod Headers
 pub mod RunMatches
 pub mod PowerCut
+pub mod Untouched
 pub mod Refusals
 pub mod Committed
 pub mod Requirements

@@ -1,6 +1,7 @@
 pub mod BenchRun
 pub mod BenchVectors
 pub mod Between
+pub mod Parts
 pub mod StepRun
 pub mod FinalPool
 pub mod Logs

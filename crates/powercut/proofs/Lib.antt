@@ -18,5 +18,6 @@ pub mod RunMatches
 pub mod PowerCut
 pub mod Untouched
 pub mod Refusals
+pub mod CommitOn
 pub mod Committed
 pub mod Requirements

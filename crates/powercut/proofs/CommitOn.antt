@@ -234,6 +234,10 @@ commit-advances g = record {
       all-made _ k g c (step-none g f) (let a = in-list g k c in let b = place-is (g .txn .phase) k e in omega arith);
 }
 
+-- it is accepted where its first step is
+pub commit-on-accepted : (g : Given) → Accepted (commitOn g .answer) → Accepted (commitStep g .answer)
+commit-on-accepted g f = split (isRefused (commitStep g .answer)) (λ h. ap (λ (x : After). isRefused (x .answer)) (sym (refused-on g h)) ∙ f) (λ h. h)
+
 -- a refused call leaves pool, staging and record as given
 pub commit-on-refused : (g : Given) → KeepsGiven g (commitOn g)
 commit-on-refused g r = split (isRefused (commitStep g .answer))

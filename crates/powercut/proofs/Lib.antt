@@ -19,5 +19,6 @@ pub mod PowerCut
 pub mod Untouched
 pub mod Refusals
 pub mod CommitOn
+pub mod AdvanceRun
 pub mod Committed
 pub mod Requirements

@@ -1,17 +1,18 @@
 -- The parts of the step lists: where a part ends (`redoBarrier`, `commitBarrier`), its barrier stands, and every step before it is a store.
 -- Assumes nothing.
-use mathlib.Core.Path.{_≡_, ap, _∙_}
+use mathlib.Core.Path.{_≡_, refl, ap, _∙_}
 use mathlib.Core.Bool.{Bool, true, false}
 use mathlib.Core.List.{List}
 use Prim.Native.Nat.{ℕ, zero, suc, _+_, _-_, _*_, _/_, _%_, _≤_, _<_}
 use native.Mathlib.Omega.{arith}
-use lib.Dec.{leb}
+use lib.Dec.{eqb, leb}
 use lib.ListN.{length, getD}
-use borrow.Author.Tests.{le-leb, leb-false, leb-true, lt-leb}
+use borrow.Author.Tests.{le-leb, leb-false, leb-true, lt-leb, ne-eqb}
 use Rattle.rules.specs.Shape.{Shape}
 use Rattle.rules.specs.Staging.{Store}
 use Rattle.rules.proofs.Bool.{split}
 use Rattle.powercut.specs.Steps.{Step, barrier, commitSteps, parity, redo, store}
+use Rattle.powercut.specs.Commit.{isStored, madeAnswer, stepAnswer}
 use Rattle.powercut.specs.Advance.{PartSizes, commitBarrier, redoBarrier}
 use Rattle.powercut.proofs.StepCount.{commit-log, commit-redo, commit-seal, redo-barrier, redo-data, redo-parity, redo-tail}
 
@@ -128,6 +129,20 @@ abbrev pub isStore : Step → Bool
 isStore (store x) = true
 isStore (parity e) = true
 isStore barrier = false
+
+-- a store that is not the last step answers stored; a barrier never does
+pub answer-stored : (k n : ℕ) (x : Step) → suc k < n → isStore x ≡ true → isStored (stepAnswer k n x) ≡ true
+unfolding stepAnswer madeAnswer isStored
+answer-stored k n x l h = rw (ne-eqb (suc k) n (λ e. omega arith)) (go x h)
+  where
+    go : (x : Step) → isStore x ≡ true → isStored (madeAnswer (suc k) x) ≡ true
+    go (store y) h = refl
+    go (parity e) h = refl
+    go barrier h = h
+
+pub answer-barrier : (k n : ℕ) → isStored (stepAnswer k n barrier) ≡ false
+unfolding stepAnswer madeAnswer isStored
+answer-barrier k n = split (eqb (suc k) n) (λ e. rw e) (λ e. rw e)
 
 module _ (sh : Shape) (es : List Store) where
   abbrev n : ℕ

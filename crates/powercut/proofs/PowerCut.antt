@@ -26,7 +26,7 @@ use Rattle.rules.proofs.Stores.{bytes-lay, length-lay}
 use Rattle.rules.proofs.StagedBook.{held-end}
 use Rattle.rules.proofs.Sound.{repair-restores, sound-again, sound-fits}
 use Rattle.powercut.specs.Log.{Log, countIn, logAt, valid}
-use Rattle.powercut.specs.Steps.{Remedy, Step, barrier, clear, commitSteps, neither, nothing, parity, recoverySteps, remedy, replay, stepPool, stepsMade, store}
+use Rattle.powercut.specs.Steps.{Remedy, Step, barrier, clear, neither, nothing, parity, recoverySteps, remedy, replay, stepPool, stepsMade, store}
 use Rattle.powercut.specs.Power.{State, act, view}
 use Rattle.powercut.specs.Commit.{commitList, commitNext, commitStart, commitStep, commitTests, isCommitting, nextPhase, placeIn, startAnswer, startPhase, stepAnswer, madeAnswer}
 use Rattle.powercut.specs.Recovery.{Progress, Recovery, concludeRecovery, countAbove, doneSteps, finished, impossibleRecovery, isRecovering, logLost, nextProgress, recovering, recoveryList, recoveryNext, recoveryStart, recoveryStep, recoveryTests, startRecovery}
@@ -35,7 +35,7 @@ use Rattle.powercut.specs.Claim.{End, EndsIn, Over, PowerCut, StepTaken,
 use Rattle.powercut.proofs.StepRun.{StepRun, Ended, Position, atCommit, atRecovery}
 use Rattle.powercut.proofs.StepCount.{replay-count}
 use Rattle.powercut.proofs.StepPool.{uncut-view, view-act}
-use Rattle.powercut.proofs.RunMatches.{CommitMatches, Input, RecoveryMatches, again-left, claim, count-is, done-is, entries-met, few, front-kept, held, left-staging, list-met, live-is, opens, place-is, clean, run-matches, same-head, shape-is, some-step-run, start-left, start-none, step-left, steps-length, targets}
+use Rattle.powercut.proofs.RunMatches.{CommitMatches, Input, RecoveryMatches, again-left, claim, count-is, done-is, entries-met, few, front-kept, held, left-staging, list-met, live-is, opens, place-is, clean, commit-some, run-matches, same-head, shape-is, some-step-run, start-left, start-none, step-left, steps-length, targets}
 use Rattle.rules.proofs.Bool.{split}
 use Rattle.rules.proofs.Transaction.{calls-short}
 
@@ -85,7 +85,7 @@ accepted-again p r o =
     let e = passed-first (recoveryTests p r) o in
     (rw e (answer-not-refused (doneSteps (r .phase)) (length (recoveryList p r)) (recoveryNext p r)), rw e)
 
-not-impossible : (sh x : Shape) (es : List Store) (st : List ℕ) (t : Transaction) → x ≡ sh → entriesAt st 0 (t .count) ≡ es → t .count ≤ entryLimit → pastCommit (t .count) (t .phase) ≡ false
+pub not-impossible : (sh x : Shape) (es : List Store) (st : List ℕ) (t : Transaction) → x ≡ sh → entriesAt st 0 (t .count) ≡ es → t .count ≤ entryLimit → pastCommit (t .count) (t .phase) ≡ false
     → goodTargets sh es ≡ true → impossible x st t ≡ false
 unfolding impossible
 not-impossible sh x es st t q e k p g = rw (le-ltb entryLimit (t .count) k, p) (ap₂ (λ (y : Shape) (l : List Store). not (goodTargets y l)) q e ∙ ap not g)
@@ -247,15 +247,11 @@ module _ (inp : Input) where
         accepted = a .0;
         leaves = a .1 ∙ ap (λ (x : Shape). stepPool x (commitNext (met s t)) (view s)) (shape-is inp (c .2)) ∙ sym (view-act sh es (commitNext (met s t)) s);
         inside = rw m (c .0);
-        count = ap length m ∙ long (length es) (subst (λ (j : ℕ). k < j) n (c .0)) n;
+        count = ap length m ∙ n ∙ commit-some (length es) k (subst (λ (j : ℕ). k < j) n (c .0)) .1;
       }
     where
       past-not : (n : ℕ) (f : Phase) (k : ℕ) → f ≡ committing k → k < commitLength n → pastCommit n f ≡ false
       past-not n f k e l = unfold pastCommit in (rw e (lt-leb (commitLength n) k l))
-
-      long : (n : ℕ) → k < commitLength n → length (commitSteps sh es) ≡ commitLength n → length (commitSteps sh es) ≡ 6 * n + 9
-      long zero l q = absurd (let z : k < 0 = unfold commitLength in l in not-suc-le-zero z)
-      long (suc n) l q = unfold commitLength in q
 
       first-sealed : (j : ℕ) → StepRun sh es pool (atCommit j) s → (eqb j 0 && not (unsealed (shapeIn (view s)) (view s))) ≡ false
       first-sealed zero c = rw (sealed-not s (atCommit 0) c (unfold stepsMade in (uncut-view sh es pool c 0 refl)))

@@ -45,6 +45,10 @@ unfolding conclude isRefused
 accepted-none g none a f = refl
 accepted-none g (some n) a f = absurd (let z : _≡_ {A = ℕ} 0 1 = cc in omega arith)
 
+pub concluded : (g : Given) (r : Option ℕ) (a : After) → Accepted (conclude g r a .answer) → conclude g r a ≡ a
+unfolding conclude
+concluded g r a f = ap (λ (o : Option ℕ). conclude g o a) (accepted-none g r a f)
+
 accepted-recovery-none : (p : List ℕ) (x : Recovery) (r : Option ℕ) (a : RecoveryAfter) → Accepted (concludeRecovery p x r a .answer) → r ≡ none
 unfolding concludeRecovery isRefused
 accepted-recovery-none p x none a f = refl
@@ -54,7 +58,7 @@ pub start-none : (g : Given) → Accepted (commitStart g .answer) → first (rec
 unfolding commitStart
 start-none g f = accepted-none g _ _ f
 
-step-none : (g : Given) → Accepted (commitStep g .answer) → first (commitTests g) ≡ none
+pub step-none : (g : Given) → Accepted (commitStep g .answer) → first (commitTests g) ≡ none
 unfolding commitStep
 step-none g f = accepted-none g _ _ f
 
@@ -135,6 +139,12 @@ pub list-length : (sh : Shape) (l : List Store) → length (commitSteps sh l) �
 unfolding commitLength
 list-length sh [] = unfold commitSteps in refl
 list-length sh (e ∷ l) = commit-count sh (e ∷ l) (zero-lt-suc (length l))
+
+-- a commit that has a step
+pub commit-some : (n k : ℕ) → k < commitLength n → (0 < n) × (commitLength n ≡ 6 * n + 9)
+unfolding commitLength
+commit-some zero k l = absurd (omega arith)
+commit-some (suc n) k l = (omega arith, refl)
 
 -- how many steps a recovery has does not hang on the pool
 recovery-length : (sh : Shape) (p q : List ℕ) (r : Remedy) → length (recoverySteps sh p r) ≡ length (recoverySteps sh q r)

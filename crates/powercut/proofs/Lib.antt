@@ -19,5 +19,6 @@ pub mod PowerCut
 pub mod Untouched
 pub mod RecoveryOn
 pub mod Refusals
+pub mod CommitOn
 pub mod Committed
 pub mod Requirements

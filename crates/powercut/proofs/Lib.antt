@@ -17,6 +17,7 @@ pub mod Headers
 pub mod RunMatches
 pub mod PowerCut
 pub mod Untouched
+pub mod RecoveryOn
 pub mod Refusals
 pub mod CommitOn
 pub mod AdvanceRun

@@ -95,11 +95,11 @@ unfolding recoverySteps
 no-steps sh p k l = not-suc-le-zero l
 
 -- a log is not lost where it is not judged, or still valid with its count
-log-past : (sh : Shape) (p : List ℕ) (l : Log) (n k : ℕ) → ltb k (2 * n + 2) ≡ false → logLost sh p (replay l n) k ≡ false
+pub log-past : (sh : Shape) (p : List ℕ) (l : Log) (n k : ℕ) → ltb k (2 * n + 2) ≡ false → logLost sh p (replay l n) k ≡ false
 unfolding logLost
 log-past sh p l n k i = rw i
 
-log-there : (sh : Shape) (p : List ℕ) (l : Log) (n k : ℕ) → ltb k (2 * n + 2) ≡ true → valid sh p (logAt sh l) ≡ true → countIn (word p (logAt sh l)) ≡ n → logLost sh p (replay l n) k ≡ false
+pub log-there : (sh : Shape) (p : List ℕ) (l : Log) (n k : ℕ) → ltb k (2 * n + 2) ≡ true → valid sh p (logAt sh l) ≡ true → countIn (word p (logAt sh l)) ≡ n → logLost sh p (replay l n) k ≡ false
 unfolding logLost
 log-there sh p l n k i v c = rw (i, v, eq-eqb (countIn (word p (logAt sh l))) n c)
 
@@ -107,7 +107,7 @@ count-small : (n : ℕ) (l : Log) → n ≤ entryLimit → countAbove (replay l 
 unfolding countAbove
 count-small n l h = le-ltb entryLimit n h
 
-again-passed : (p : List ℕ) (r : Recovery) (k : ℕ) → Passed (openTests p) → r .phase ≡ recovering k → countAbove (r .work) ≡ false → k < length (recoveryList p r)
+pub again-passed : (p : List ℕ) (r : Recovery) (k : ℕ) → Passed (openTests p) → r .phase ≡ recovering k → countAbove (r .work) ≡ false → k < length (recoveryList p r)
     → logLost (shapeIn p) p (r .work) k ≡ false → Passed (recoveryTests p r)
 unfolding recoveryTests impossibleRecovery isRecovering doneSteps recoveryList
 again-passed p r k o e a i d =

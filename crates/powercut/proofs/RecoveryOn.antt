@@ -14,6 +14,7 @@ use Rattle.rules.specs.Shape.{Shape, entryLimit, entrySize, logA, logB, logHead
 use Rattle.rules.specs.Header.{shapeIn}
 use Rattle.rules.specs.Staging.{Store, entriesAt, goodTargets}
 use Rattle.rules.specs.Answer.{isRefused, refused}
+use Rattle.rules.proofs.Bool.{split}
 use Rattle.rules.proofs.Test.{Passed, passed-first}
 use Rattle.rules.proofs.Shape.{Good}
 use Rattle.rules.proofs.Words.{put-out}
@@ -22,14 +23,15 @@ use Rattle.rules.proofs.Transaction.{entries-count}
 use Rattle.powercut.specs.Log.{Log, countIn, fromA, fromB, logAt, logEntries, valid}
 use Rattle.powercut.specs.Steps.{Remedy, Step, barrier, clear, neither, nothing, recoverySteps, redo, replay, seals, stepPool, stepsMade, store}
 use Rattle.powercut.specs.Commit.{isStored, stepAnswer}
-use Rattle.powercut.specs.Recovery.{Progress, Recovery, RecoveryAfter, concludeRecovery, countAbove, doneSteps, isRecovering, logLost, nextProgress, recovering, recoveryList, recoveryMore, recoveryNext, recoveryOn, recoveryStep}
+use Rattle.powercut.specs.Recovery.{Progress, Recovery, RecoveryAfter, concludeRecovery, countAbove, doneSteps, finished, isRecovering, logLost, nextProgress, recovering, recoveryList, recoveryMore, recoveryNext, recoveryOn, recoveryStep}
 use Rattle.powercut.specs.WholeRun.{Accepted}
+use Rattle.powercut.specs.Requirements.{KeepsRecovery}
 use Rattle.powercut.specs.Advance.{RecoveryAdvances, between, recoveryBarrier, recoveryMade, redoBarrier}
 use Rattle.powercut.proofs.StepCount.{redo-tail, replay-count}
 use Rattle.powercut.proofs.Logs.{judged-kept, log-targets}
 use Rattle.powercut.proofs.RunMatches.{Possible, again-none, again-possible}
-use Rattle.powercut.proofs.PowerCut.{again-passed, log-past, log-there, progress-on}
-use Rattle.powercut.proofs.Refusals.{recovery-step-refused}
+use Rattle.powercut.proofs.PowerCut.{again-passed, answer-not-refused, log-past, log-there, progress-on}
+use Rattle.powercut.proofs.Refusals.{recovery-step-refused, refused-is}
 use Rattle.powercut.proofs.Between.{made-here, made-next}
 use Rattle.powercut.proofs.Parts.{RedoPart, clears, data-words, answer-barrier, answer-stored, isStore, parity-words, redo-ends, redo-high, redo-low, redo-part, redo-stays, redo-store}
 use Rattle.powercut.proofs.Untouched.{Untouched, clear-from, entries-same, entries-untouched, headers-untouched, redo-from, redo-in-zones, step-untouched, word-untouched}
@@ -312,3 +314,38 @@ recovery-advances p r = record { refuses = refuses; makes = makes }
     makes k e =
         subst (λ (f : Progress). Accepted (recoveryStep p (record { work = r .work; phase = f }) .answer)
         → recoveryOn p (record { work = r .work; phase = f }) ≡ recoveryMade p (record { work = r .work; phase = f }) k (recoveryBarrier (r .work) k)) (sym e) (makes-part (r .work) p k)
+
+-- ---- accepted and refused calls
+
+pub recovery-place : (p : List ℕ) (r : Recovery) → Accepted (recoveryStep p r .answer) → (k : ℕ) × (r .phase ≡ recovering k)
+recovery-place p r f = go (r .phase) (again-possible p r (again-none p r f) .recovers)
+  where
+    go : (x : Progress) → isRecovering x ≡ true → (k : ℕ) × (x ≡ recovering k)
+    go (recovering k) h = (k, refl)
+    go finished h = unfold isRecovering in (0, cc)
+
+made-accepted : (p : List ℕ) (r : Recovery) (k e : ℕ) → Accepted (recoveryMade p r k e .answer)
+unfolding recoveryMade
+made-accepted p r k e = answer-not-refused e (length (recoveryList p r)) barrier
+
+-- the call is accepted where its first step is
+pub recovery-on-accepted : (p : List ℕ) (r : Recovery) → Accepted (recoveryOn p r .answer) → Accepted (recoveryStep p r .answer)
+unfolding isRefused
+recovery-on-accepted p r f = split (isRefused (recoveryStep p r .answer))
+    (λ h. let w = refused-is (recoveryStep p r .answer) h in
+    let e = ap (λ (x : RecoveryAfter). isRefused (x .answer)) (recovery-advances p r .refuses (w .0) (w .1)) in
+    let z : _≡_ {A = ℕ} 0 1 = cc in
+    absurd (omega arith))
+    (λ h. h)
+
+-- a refused call leaves pool and record as given
+pub recovery-on-refused : (p : List ℕ) (r : Recovery) → KeepsRecovery p r (recoveryOn p r)
+recovery-on-refused p r x = split (isRefused (recoveryStep p r .answer))
+    (λ h. let w = refused-is (recoveryStep p r .answer) h in
+    let e = recovery-advances p r .refuses (w .0) (w .1) in
+    (ap (λ (y : RecoveryAfter). y .pool) e, ap (λ (y : RecoveryAfter). y .recovery) e))
+    (λ f. let w = recovery-place p r f in
+    let a = ap (λ (y : RecoveryAfter). isRefused (y .answer)) (recovery-advances p r .makes (w .0) (w .1) f) in
+    let b = made-accepted p r (w .0) (recoveryBarrier (r .work) (w .0)) in
+    let z : _≡_ {A = ℕ} 0 1 = cc in
+    absurd (omega arith))

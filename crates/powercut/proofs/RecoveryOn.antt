@@ -38,14 +38,14 @@ use Rattle.powercut.proofs.Untouched.{Untouched, clear-from, entries-sa
 
 -- ---- the part of a step
 
-record Part (xs : List Step) (w : Remedy) (k : ℕ) : Type 0 where
-  low : k ≤ recoveryBarrier w k
-  high : recoveryBarrier w k < length xs
+pub record Part (xs : List Step) (w : Remedy) (k : ℕ) : Type 0 where
+  pub low : k ≤ recoveryBarrier w k
+  pub high : recoveryBarrier w k < length xs
   stays : k < recoveryBarrier w k → recoveryBarrier w (suc k) ≡ recoveryBarrier w k
   stores : k < recoveryBarrier w k → isStore (getD xs k barrier) ≡ true
   ends : getD xs (recoveryBarrier w k) barrier ≡ barrier
 
-part-of : (sh : Shape) (p : List ℕ) (w : Remedy) (k : ℕ) → k < length (recoverySteps sh p w) → Part (recoverySteps sh p w) w k
+pub part-of : (sh : Shape) (p : List ℕ) (w : Remedy) (k : ℕ) → k < length (recoverySteps sh p w) → Part (recoverySteps sh p w) w k
 unfolding recoverySteps recoveryBarrier
 part-of sh p (replay l n) k h =
     let c = replay-count sh p l n in

@@ -4,30 +4,20 @@ use mathlib.Core.Bool.{true}
 use mathlib.Core.List.{List}
 use Prim.Native.Nat.{ℕ, _+_, _*_, _≤_, _<_}
 use native.Mathlib.Omega.{arith}
-use lib.Dec.{eqb, leb}
 use lib.ListN.{length, getD}
 use Rattle.rules.specs.Words.{word}
-use Rattle.rules.specs.Check.{check}
 use Rattle.rules.specs.Shape.{Shape, entryLimit, entrySize, logHead, poolSize, stagingSize}
-use Rattle.rules.specs.Staging.{entriesAt, entryBytes, goodTargets}
-use Rattle.rules.proofs.Bool.{and-split}
-use Rattle.powercut.specs.Log.{Log, checkIn, countIn, logAt, logEntries, markIn, sealMark, valid}
+use Rattle.rules.specs.Staging.{entriesAt, goodTargets}
+use Rattle.powercut.specs.Log.{Log, countIn, logAt, valid}
 use Rattle.powercut.specs.Steps.{Step, barrier, clear, commitSteps, recoverySteps, replay, stepPool}
 use Rattle.powercut.specs.Commit.{madeAnswer}
+use Rattle.powercut.proofs.Logs.{log-targets}
 use Rattle.log.specs.Targets.{allFit, read}
 use Rattle.actions.specs.declared.Action.{Action}
 use Rattle.actions.specs.declared.Action.the-variants.{Barrier, Store}
 use Rattle.actions.specs.Actions.{Computed, Ready, actionOf, answerOf, applied, clearAction, commitAction, redoAction, toldOf}
 use Rattle.answers.specs.Meaning as Answers
 use Rattle.actions.proofs.Actions.{answer-step, applied-step}
-
-valid-targets : (sh : Shape) (p : List ℕ) (b : ℕ) → valid sh p b ≡ true → goodTargets sh (entriesAt p (b + logHead) (countIn (word p b))) ≡ true
-unfolding valid logEntries
-valid-targets sh p b v =
-    let m = and-split (eqb (markIn (word p b)) sealMark) _ v in
-    let o = and-split (leb 1 (countIn (word p b))) _ (m .1) in
-    let q = and-split (leb (countIn (word p b)) entryLimit) _ (o .1) in
-    and-split (eqb (checkIn (word p b)) (check (entryBytes (entriesAt p (b + logHead) (countIn (word p b)))))) _ (q .1) .1
 
 module _ (sh : Shape) (p : List ℕ) where
   -- ---- the step by its number
@@ -61,7 +51,7 @@ module _ (sh : Shape) (p : List ℕ) where
     -- the log at b with the count n, kept while data or parity is stored
     pub ready-log : (b n k : ℕ) → b + logHead + entrySize * entryLimit ≤ length p → n ≤ entryLimit → (k < 2 * n + 1 → (valid sh p b ≡ true) × (countIn (word p b) ≡ n)) → Ready sh p p (b + logHead) n k
     unfolding allFit read
-    ready-log b n k l f h = record { whole = whole; few = f; held = omega arith; right = λ u. rw (← (h u .1)) (valid-targets sh p b (h u .0)) }
+    ready-log b n k l f h = record { whole = whole; few = f; held = omega arith; right = λ u. rw (← (h u .1)) (log-targets sh p b (h u .0)) }
 
 -- the code's answer is the paper's
 pub told-answer : (k : ℕ) (a : Action) → Answers.answerOf (toldOf k a) ≡ answerOf k a

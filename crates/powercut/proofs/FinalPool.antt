@@ -42,16 +42,22 @@ module _ (sh : Shape) where
         data-row = ltb-true _ _ (c .1);
       }
 
+  pub targets-data : (es : List Store) → goodTargets sh es ≡ true → All (λ a w. InData sh a) es
+  targets-data [] t = tt
+  targets-data (e ∷ es) t =
+      let a = and-split (goodTarget sh (e .at)) _ t in
+      (target-data (e .at) (a .0), targets-data es (and-split (noneAt (e .at) es) _ (a .1) .1))
+
   -- a staged entry
   pub record Entry (a w : ℕ) : Type 0 where
     pub target : InData sh a
     pub small : w < 2 ^ 64
 
   pub targets-all : (es : List Store) → goodTargets sh es ≡ true → ((i : ℕ) → getD es i (record { at = 0; val = 0 }) .val < 2 ^ 64) → All Entry es
-  targets-all [] t h = tt
-  targets-all (e ∷ es) t h =
-      let a = and-split (goodTarget sh (e .at)) _ t in
-      (record { target = target-data (e .at) (a .0); small = h 0 }, targets-all es (and-split (noneAt (e .at) es) _ (a .1) .1) (λ i. h (suc i)))
+  targets-all es t h = go es (targets-data es t) h where
+    go : (es : List Store) → All (λ a w. InData sh a) es → ((i : ℕ) → getD es i (record { at = 0; val = 0 }) .val < 2 ^ 64) → All Entry es
+    go [] d h = tt
+    go (e ∷ es) d h = (record { target = d .0; small = h 0 }, go es (d .1) (λ i. h (suc i)))
 
   pub targets-distinct : (es : List Store) → goodTargets sh es ≡ true → Distinct es
   targets-distinct [] t = tt

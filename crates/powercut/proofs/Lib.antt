@@ -1,6 +1,7 @@
 pub mod BenchRun
 pub mod BenchVectors
 pub mod Between
+pub mod Parts
 pub mod StepRun
 pub mod FinalPool
 pub mod Logs
@@ -15,6 +16,10 @@ pub mod StepPool
 pub mod Headers
 pub mod RunMatches
 pub mod PowerCut
+pub mod Untouched
+pub mod RecoveryOn
 pub mod Refusals
+pub mod CommitOn
+pub mod AdvanceRun
 pub mod Committed
 pub mod Requirements

@@ -2,13 +2,13 @@
 -- 127 entries with good targets. Assumes nothing else.
 use mathlib.Core.Path.{_≡_, refl, ap, _∙_}
 use mathlib.Core.Logic.{_⊎_, inl, inr}
-use mathlib.Core.Bool.{true, false}
+use mathlib.Core.Bool.{Bool, true, false, not, _&&_}
 use mathlib.Core.List.{List, [], _∷_}
 use Prim.Native.Nat.{ℕ, suc, _+_, _*_, _/_, _%_, _^_, _≤_, _<_}
 use native.Mathlib.Nat.{mul-mod-left}
 use native.Mathlib.Omega.{arith}
-use borrow.Author.Tests.{eq-eqb, le-leb, leb-true}
-use lib.Dec.{leb, eqb}
+use borrow.Author.Tests.{eq-eqb, eqb-true, le-leb, leb-true, lt-ltb}
+use lib.Dec.{leb, ltb, eqb}
 use lib.Arith.{digits-div, digits-mod}
 use lib.ListN.{length}
 use Rattle.rules.specs.Words.{word}
@@ -16,6 +16,7 @@ use Rattle.rules.specs.Check.{check}
 use Rattle.rules.specs.Shape.{Shape, entryLimit, entrySize, logA, logB, logHead, poolSize, zonesAt}
 use Rattle.rules.specs.Staging.{Store, entriesAt, entryBytes, goodTargets}
 use Rattle.rules.proofs.Bool.{and-split}
+use Rattle.rules.proofs.Test.{not-not}
 use Rattle.rules.proofs.Shape.{Good, page-eq, size-eq}
 use Rattle.rules.proofs.Stores.{All, Covered, Distinct, Fit, all-map, covered-fact}
 use Rattle.rules.proofs.Check.{check-lt}
@@ -175,6 +176,22 @@ valid-few sh p b e =
     let k = and-split (leb 1 (countIn (word p b))) _ (h .1) in
     let m = leb-true (countIn (word p b)) _ (and-split _ _ (k .1) .0) in
     omega arith
+
+-- and good targets
+pub log-targets : (sh : Shape) (p : List ℕ) (b : ℕ) → valid sh p b ≡ true → goodTargets sh (entriesAt p (b + logHead) (countIn (word p b))) ≡ true
+unfolding valid logEntries
+log-targets sh p b v =
+    let m = and-split (eqb (markIn (word p b)) sealMark) _ v in
+    let o = and-split (leb 1 (countIn (word p b))) _ (m .1) in
+    let q = and-split (leb (countIn (word p b)) entryLimit) _ (o .1) in
+    and-split (eqb (checkIn (word p b)) (check (entryBytes (entriesAt p (b + logHead) (countIn (word p b)))))) _ (q .1) .1
+
+-- a log that is judged, up to place m, and not lost: the answer v to whether it is valid, and its count
+pub judged-kept : (k m : ℕ) (v : Bool) (c n : ℕ) → (ltb k m && not (v && eqb c n)) ≡ false → k < m → (v ≡ true) × (c ≡ n)
+judged-kept k m v c n e l =
+    let f : not (v && eqb c n) ≡ false = rw (lt-ltb k m l) at e in
+    let a = and-split v (eqb c n) (not-not (v && eqb c n) f) in
+    (a .0, eqb-true c n (a .1))
 
 pub not-valid : (sh : Shape) (p : List ℕ) (b : ℕ) → word p b ≡ 0 → valid sh p b ≡ false
 unfolding valid logEntries markIn

@@ -26,7 +26,7 @@ use Rattle.rules.proofs.Stores.{bytes-lay, length-lay}
 use Rattle.rules.proofs.StagedBook.{held-end}
 use Rattle.rules.proofs.Sound.{repair-restores, sound-again, sound-fits}
 use Rattle.powercut.specs.Log.{Log, countIn, logAt, valid}
-use Rattle.powercut.specs.Steps.{Remedy, Step, barrier, clear, commitSteps, neither, nothing, parity, recoverySteps, remedy, replay, stepPool, stepsMade, store}
+use Rattle.powercut.specs.Steps.{Remedy, Step, barrier, clear, neither, nothing, parity, recoverySteps, remedy, replay, stepPool, stepsMade, store}
 use Rattle.powercut.specs.Power.{State, act, view}
 use Rattle.powercut.specs.Commit.{commitList, commitNext, commitStart, commitStep, commitTests, isCommitting, nextPhase, placeIn, startAnswer, startPhase, stepAnswer, madeAnswer}
 use Rattle.powercut.specs.Recovery.{Progress, Recovery, concludeRecovery, countAbove, doneSteps, finished, impossibleRecovery, isRecovering, logLost, nextProgress, recovering, recoveryList, recoveryNext, recoveryStart, recoveryStep, recoveryTests, startRecovery}
@@ -35,7 +35,7 @@ use Rattle.powercut.specs.Claim.{End, EndsIn, Over, PowerCut, StepTaken,
 use Rattle.powercut.proofs.StepRun.{StepRun, Ended, Position, atCommit, atRecovery}
 use Rattle.powercut.proofs.StepCount.{replay-count}
 use Rattle.powercut.proofs.StepPool.{uncut-view, view-act}
-use Rattle.powercut.proofs.RunMatches.{CommitMatches, Input, RecoveryMatches, again-left, claim, count-is, done-is, entries-met, few, front-kept, held, left-staging, list-met, live-is, opens, place-is, clean, run-matches, same-head, shape-is, some-step-run, start-left, start-none, step-left, steps-length, targets}
+use Rattle.powercut.proofs.RunMatches.{CommitMatches, Input, RecoveryMatches, again-left, claim, count-is, done-is, entries-met, few, front-kept, held, left-staging, list-met, live-is, opens, place-is, clean, commit-some, run-matches, same-head, shape-is, some-step-run, start-left, start-none, step-left, steps-length, targets}
 use Rattle.rules.proofs.Bool.{split}
 use Rattle.rules.proofs.Transaction.{calls-short}
 
@@ -85,7 +85,7 @@ accepted-again p r o =
     let e = passed-first (recoveryTests p r) o in
     (rw e (answer-not-refused (doneSteps (r .phase)) (length (recoveryList p r)) (recoveryNext p r)), rw e)
 
-not-impossible : (sh x : Shape) (es : List Store) (st : List ℕ) (t : Transaction) → x ≡ sh → entriesAt st 0 (t .count) ≡ es → t .count ≤ entryLimit → pastCommit (t .count) (t .phase) ≡ false
+pub not-impossible : (sh x : Shape) (es : List Store) (st : List ℕ) (t : Transaction) → x ≡ sh → entriesAt st 0 (t .count) ≡ es → t .count ≤ entryLimit → pastCommit (t .count) (t .phase) ≡ false
     → goodTargets sh es ≡ true → impossible x st t ≡ false
 unfolding impossible
 not-impossible sh x es st t q e k p g = rw (le-ltb entryLimit (t .count) k, p) (ap₂ (λ (y : Shape) (l : List Store). not (goodTargets y l)) q e ∙ ap not g)
@@ -95,11 +95,11 @@ unfolding recoverySteps
 no-steps sh p k l = not-suc-le-zero l
 
 -- a log is not lost where it is not judged, or still valid with its count
-log-past : (sh : Shape) (p : List ℕ) (l : Log) (n k : ℕ) → ltb k (2 * n + 2) ≡ false → logLost sh p (replay l n) k ≡ false
+pub log-past : (sh : Shape) (p : List ℕ) (l : Log) (n k : ℕ) → ltb k (2 * n + 2) ≡ false → logLost sh p (replay l n) k ≡ false
 unfolding logLost
 log-past sh p l n k i = rw i
 
-log-there : (sh : Shape) (p : List ℕ) (l : Log) (n k : ℕ) → ltb k (2 * n + 2) ≡ true → valid sh p (logAt sh l) ≡ true → countIn (word p (logAt sh l)) ≡ n → logLost sh p (replay l n) k ≡ false
+pub log-there : (sh : Shape) (p : List ℕ) (l : Log) (n k : ℕ) → ltb k (2 * n + 2) ≡ true → valid sh p (logAt sh l) ≡ true → countIn (word p (logAt sh l)) ≡ n → logLost sh p (replay l n) k ≡ false
 unfolding logLost
 log-there sh p l n k i v c = rw (i, v, eq-eqb (countIn (word p (logAt sh l))) n c)
 
@@ -107,7 +107,7 @@ count-small : (n : ℕ) (l : Log) → n ≤ entryLimit → countAbove (replay l 
 unfolding countAbove
 count-small n l h = le-ltb entryLimit n h
 
-again-passed : (p : List ℕ) (r : Recovery) (k : ℕ) → Passed (openTests p) → r .phase ≡ recovering k → countAbove (r .work) ≡ false → k < length (recoveryList p r)
+pub again-passed : (p : List ℕ) (r : Recovery) (k : ℕ) → Passed (openTests p) → r .phase ≡ recovering k → countAbove (r .work) ≡ false → k < length (recoveryList p r)
     → logLost (shapeIn p) p (r .work) k ≡ false → Passed (recoveryTests p r)
 unfolding recoveryTests impossibleRecovery isRecovering doneSteps recoveryList
 again-passed p r k o e a i d =
@@ -247,15 +247,11 @@ module _ (inp : Input) where
         accepted = a .0;
         leaves = a .1 ∙ ap (λ (x : Shape). stepPool x (commitNext (met s t)) (view s)) (shape-is inp (c .2)) ∙ sym (view-act sh es (commitNext (met s t)) s);
         inside = rw m (c .0);
-        count = ap length m ∙ long (length es) (subst (λ (j : ℕ). k < j) n (c .0)) n;
+        count = ap length m ∙ n ∙ commit-some (length es) k (subst (λ (j : ℕ). k < j) n (c .0)) .1;
       }
     where
       past-not : (n : ℕ) (f : Phase) (k : ℕ) → f ≡ committing k → k < commitLength n → pastCommit n f ≡ false
       past-not n f k e l = unfold pastCommit in (rw e (lt-leb (commitLength n) k l))
-
-      long : (n : ℕ) → k < commitLength n → length (commitSteps sh es) ≡ commitLength n → length (commitSteps sh es) ≡ 6 * n + 9
-      long zero l q = absurd (let z : k < 0 = unfold commitLength in l in not-suc-le-zero z)
-      long (suc n) l q = unfold commitLength in q
 
       first-sealed : (j : ℕ) → StepRun sh es pool (atCommit j) s → (eqb j 0 && not (unsealed (shapeIn (view s)) (view s))) ≡ false
       first-sealed zero c = rw (sealed-not s (atCommit 0) c (unfold stepsMade in (uncut-view sh es pool c 0 refl)))
@@ -291,13 +287,21 @@ module _ (inp : Input) where
       → Accepted (recoveryStart (view s) .answer) × ((recoveryStart (view s) .recovery .phase ≡ finished) ⊎ (recoveryStart (view s) .recovery .phase ≡ recovering 0))
   restarts s r = let i = restarted s r in (i .0, ⊎-elim inl (λ h. inr (h .0)) (i .1))
 
+  -- a recovery that has a step to make replays a log with all entries
+  pub running-replay : (q : Remedy) (s : State) (k : ℕ) → RecoveryMatches inp q (recovering k) s → (l : Log) × (q ≡ replay l (length es))
+  running-replay q s k c = go (claim inp .remedies s q k (c .1))
+    where
+      go : (q ≡ nothing) ⊎ ((l : Log) × (q ≡ replay l (length es))) → (l : Log) × (q ≡ replay l (length es))
+      go (inl i) = absurd (no-steps sh (view s) k (subst (λ (x : Remedy). k < length (recoverySteps sh (view s) x)) i (c .0)))
+      go (inr i) = i
+
   resumes : (r : Recovery) (s : State) (k : ℕ) → Run pool staging ks (resuming r) s → r .phase ≡ recovering k
       → StepTaken pool staging ks (recoveryStep (view s) r .answer) (recoveryStep (view s) r .pool) s (recoveryNext (view s) r) k (recoveryList (view s) r) (2 * length es + 5)
   resumes r s k u e =
       let c : RecoveryMatches inp (r .work) (recovering k) s = subst (λ (f : Progress). RecoveryMatches inp (r .work) f s) e (run-matches inp u) in
       let x = shape-is inp (c .1) in
       let m : recoveryList (view s) r ≡ recoverySteps sh (view s) (r .work) = list-of x in
-      let w = which (claim inp .remedies s (r .work) k (c .1)) (c .0) in
+      let w = running-replay (r .work) s k c in
       let n : length (recoveryList (view s) r) ≡ 2 * length es + 5 = ap length m ∙ ap (λ (q : Remedy). length (recoverySteps sh (view s) q)) (w .1) ∙ replay-count sh (view s) (w .0) (length es) in
       let b = claim inp .log-kept s (w .0) (length es) k
       (subst (λ (q : Remedy). StepRun sh es pool (atRecovery q k) s) (w .1) (c .1)) in
@@ -311,10 +315,6 @@ module _ (inp : Input) where
     where
       list-of : shapeIn (view s) ≡ sh → recoveryList (view s) r ≡ recoverySteps sh (view s) (r .work)
       list-of x = unfold recoveryList in (rw x)
-
-      which : (r .work ≡ nothing) ⊎ ((l : Log) × (r .work ≡ replay l (length es))) → k < length (recoverySteps sh (view s) (r .work)) → (l : Log) × (r .work ≡ replay l (length es))
-      which (inl i) l = absurd (no-steps sh (view s) k (subst (λ (q : Remedy). k < length (recoverySteps sh (view s) q)) i l))
-      which (inr i) l = i
 
       lost-not : (l : Log) → (k < 2 * length es + 2 → (valid sh (view s) (logAt sh l) ≡ true) × (countIn (word (view s) (logAt sh l)) ≡ length es))
           → logLost sh (view s) (replay l (length es)) k ≡ false

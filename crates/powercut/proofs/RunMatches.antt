@@ -45,6 +45,10 @@ unfolding conclude isRefused
 accepted-none g none a f = refl
 accepted-none g (some n) a f = absurd (let z : _≡_ {A = ℕ} 0 1 = cc in omega arith)
 
+pub concluded : (g : Given) (r : Option ℕ) (a : After) → Accepted (conclude g r a .answer) → conclude g r a ≡ a
+unfolding conclude
+concluded g r a f = ap (λ (o : Option ℕ). conclude g o a) (accepted-none g r a f)
+
 accepted-recovery-none : (p : List ℕ) (x : Recovery) (r : Option ℕ) (a : RecoveryAfter) → Accepted (concludeRecovery p x r a .answer) → r ≡ none
 unfolding concludeRecovery isRefused
 accepted-recovery-none p x none a f = refl
@@ -54,7 +58,7 @@ pub start-none : (g : Given) → Accepted (commitStart g .answer) → first (rec
 unfolding commitStart
 start-none g f = accepted-none g _ _ f
 
-step-none : (g : Given) → Accepted (commitStep g .answer) → first (commitTests g) ≡ none
+pub step-none : (g : Given) → Accepted (commitStep g .answer) → first (commitTests g) ≡ none
 unfolding commitStep
 step-none g f = accepted-none g _ _ f
 
@@ -66,17 +70,31 @@ pub again-none : (p : List ℕ) (r : Recovery) → Accepted (recoveryStep p r .a
 unfolding recoveryStep
 again-none p r f = accepted-recovery-none p r _ _ f
 
--- the step is one of its list, which has at most 259
-pub again-inside : (p : List ℕ) (r : Recovery) → first (recoveryTests p r) ≡ none → (doneSteps (r .phase) < length (recoveryList p r)) × (length (recoveryList p r) ≤ 259)
+-- the record is possible
+pub record Possible (p : List ℕ) (r : Recovery) : Type 0 where
+  pub opens : Passed (openTests p)
+  pub count : countAbove (r .work) ≡ false
+  pub recovers : isRecovering (r .phase) ≡ true
+  pub place : doneSteps (r .phase) < length (recoveryList p r)
+  pub log : logLost (shapeIn p) p (r .work) (doneSteps (r .phase)) ≡ false
+
+pub again-possible : (p : List ℕ) (r : Recovery) → first (recoveryTests p r) ≡ none → Possible p r
 unfolding recoveryTests impossibleRecovery recoveryList
-again-inside p r e =
+again-possible p r e =
     let k : ℕ = doneSteps (r .phase) in
     let n : ℕ = length (recoverySteps (shapeIn p) p (r .work)) in
-    let q = passed-right (openTests p) _ (first-passed _ e) in
+    let t = first-passed _ e in
+    let q = passed-right (openTests p) _ t in
     let a = or-false (countAbove (r .work)) _ (q .0) in
-    let b : (true && (not (ltb k n) || logLost (shapeIn p) p (r .work) k)) ≡ false = rw (not-not (isRecovering (r .phase)) (q .1 .0)) at (a .1) in
+    let i = not-not (isRecovering (r .phase)) (q .1 .0) in
+    let b : (true && (not (ltb k n) || logLost (shapeIn p) p (r .work) k)) ≡ false = rw i at (a .1) in
     let c = or-false (not (ltb k n)) (logLost (shapeIn p) p (r .work) k) b in
-    (ltb-true k n (not-not (ltb k n) (c .0)), recovery-few (shapeIn p) p (r .work) (a .0))
+    record { opens = passed-left (openTests p) _ t; count = a .0; recovers = i; place = ltb-true k n (not-not (ltb k n) (c .0)); log = c .1 }
+
+-- the step is one of its list, which has at most 259
+pub again-inside : (p : List ℕ) (r : Recovery) → first (recoveryTests p r) ≡ none → (doneSteps (r .phase) < length (recoveryList p r)) × (length (recoveryList p r) ≤ 259)
+unfolding recoveryList
+again-inside p r e = let q = again-possible p r e in (q .place, recovery-few (shapeIn p) p (r .work) (q .count))
 
 -- what the record is then
 pub start-left : (g : Given) → first (recordTests g ++ liveTests g) ≡ none → commitStart g .left .txn ≡ record { count = g .txn .count; phase = startPhase (g .txn .count) }
@@ -92,7 +110,7 @@ pub again-left : (p : List ℕ) (r : Recovery) → Accepted (recoveryStep p r .a
 unfolding recoveryStep concludeRecovery
 again-left p r f = rw (again-none p r f)
 
-next-is : (g : Given) (k : ℕ) (l : List Step) → g .txn .phase ≡ committing k → commitList g ≡ l → commitNext g ≡ getD l k barrier
+pub next-is : (g : Given) (k : ℕ) (l : List Step) → g .txn .phase ≡ committing k → commitList g ≡ l → commitNext g ≡ getD l k barrier
 unfolding commitNext placeIn
 next-is g k l e m = ap₂ (λ (l : List Step) (j : ℕ). getD l j barrier) m (ap placeIn e)
 
@@ -100,11 +118,11 @@ pub place-is : (f : Phase) (k : ℕ) → f ≡ committing k → placeIn f ≡ k
 unfolding placeIn
 place-is f k e = ap placeIn e
 
-again-next : (p : List ℕ) (r : Recovery) (k : ℕ) (l : List Step) → r .phase ≡ recovering k → recoveryList p r ≡ l → recoveryNext p r ≡ getD l k barrier
+pub again-next : (p : List ℕ) (r : Recovery) (k : ℕ) (l : List Step) → r .phase ≡ recovering k → recoveryList p r ≡ l → recoveryNext p r ≡ getD l k barrier
 unfolding recoveryNext doneSteps
 again-next p r k l e m = ap₂ (λ (l : List Step) (j : ℕ). getD l j barrier) m (ap doneSteps e)
 
-list-is : (p : List ℕ) (r : Recovery) (sh : Shape) → shapeIn p ≡ sh → recoveryList p r ≡ recoverySteps sh p (r .work)
+pub list-is : (p : List ℕ) (r : Recovery) (sh : Shape) → shapeIn p ≡ sh → recoveryList p r ≡ recoverySteps sh p (r .work)
 unfolding recoveryList
 list-is p r sh e = ap (λ (x : Shape). recoverySteps x p (r .work)) e
 
@@ -121,6 +139,12 @@ pub list-length : (sh : Shape) (l : List Store) → length (commitSteps sh l) �
 unfolding commitLength
 list-length sh [] = unfold commitSteps in refl
 list-length sh (e ∷ l) = commit-count sh (e ∷ l) (zero-lt-suc (length l))
+
+-- a commit that has a step
+pub commit-some : (n k : ℕ) → k < commitLength n → (0 < n) × (commitLength n ≡ 6 * n + 9)
+unfolding commitLength
+commit-some zero k l = absurd (omega arith)
+commit-some (suc n) k l = (omega arith, refl)
 
 -- how many steps a recovery has does not hang on the pool
 recovery-length : (sh : Shape) (p q : List ℕ) (r : Remedy) → length (recoverySteps sh p r) ≡ length (recoverySteps sh q r)

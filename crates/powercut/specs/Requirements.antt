@@ -22,8 +22,8 @@ use Rattle.rules.specs.Repair.{Loss, repair}
 use Rattle.rules.specs.Mend.{mendHeader}
 use Rattle.rules.specs.Scrub.{counts, scrub}
 use Rattle.rules.specs.Format.{formatted}
-use Rattle.powercut.specs.Commit.{commitStart, commitStep}
-use Rattle.powercut.specs.Recovery.{Recovery, RecoveryAfter, recoveryStart, recoveryStep}
+use Rattle.powercut.specs.Commit.{commitOn, commitStart, commitStep}
+use Rattle.powercut.specs.Recovery.{Recovery, RecoveryAfter, recoveryOn, recoveryStart, recoveryStep}
 use Rattle.powercut.specs.WholeRun.{entries}
 use Rattle.powercut.specs.Claim.{Commits, new}
 
@@ -50,8 +50,10 @@ pub record Requirement1 : Type 0 where
   pub frees : (g : Given) (a : ℕ) → KeepsGiven g (call g (release a))
   pub starts : (g : Given) → KeepsGiven g (commitStart g)
   pub steps : (g : Given) → KeepsGiven g (commitStep g)
+  pub advances : (g : Given) → KeepsGiven g (commitOn g)
   pub restarts : (p : List ℕ) → isRefused (recoveryStart p .answer) ≡ true → recoveryStart p .pool ≡ p
   pub resumes : (p : List ℕ) (r : Recovery) → KeepsRecovery p r (recoveryStep p r)
+  pub readvances : (p : List ℕ) (r : Recovery) → KeepsRecovery p r (recoveryOn p r)
 
 -- ---- Requirement 2: what is staged becomes exactly those pool bytes, and those bytes read back as exactly those objects.
 

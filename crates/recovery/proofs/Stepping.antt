@@ -1,25 +1,26 @@
 -- The ways out of a recovery's step: the log lost or kept, the step that comes next, the reply. Assumes nothing.
 use Prim.Native.Nat.{ℕ, suc, _+_, _*_, _<_, _≤_}
 use mathlib.Core.Path.{_≡_, refl, ap, _∙_}
-use mathlib.Core.Bool.{Bool, true, false, not, _&&_, _||_}
+use mathlib.Core.Bool.{Bool, true, false, not, _||_}
 use mathlib.Core.List.{List, [], _∷_}
 use native.Mathlib.Numerals.{add-one}
 use native.Mathlib.Omega.{arith}
 use lib.Dec.{eqb, ltb}
 use lib.ListN.{length, getD}
-use borrow.Author.Tests.{eqb-true, le-ltb, lt-ltb}
+use borrow.Author.Tests.{le-ltb, lt-ltb}
 use Rattle.rules.specs.Words.{word}
 use Rattle.rules.specs.Shape.{entryLimit}
 use Rattle.rules.specs.Test.{first, when}
 use Rattle.rules.specs.Header.{openTests, shapeIn}
 use Rattle.rules.specs.Answer.{refused}
-use Rattle.rules.proofs.Bool.{and-split, split}
-use Rattle.rules.proofs.Test.{first-left, first-right, not-not}
+use Rattle.rules.proofs.Bool.{split}
+use Rattle.rules.proofs.Test.{first-left, first-right}
 use Rattle.powercut.specs.Log.{Log, countIn, logAt, valid}
 use Rattle.powercut.specs.Steps.{Remedy, Step, barrier, clear, recoverySteps, replay, stepPool}
 use Rattle.powercut.specs.Commit.{stepAnswer}
 use Rattle.powercut.specs.Recovery as Paper
 use Rattle.powercut.proofs.StepCount.{clear-count, replay-count}
+use Rattle.powercut.proofs.Logs.{judged-kept}
 use Rattle.words.specs.Loaded.{Loaded}
 use Rattle.layout.specs.declared.Shape.{Shape}
 use Rattle.layout.specs.declared.Opened.the-variants as Opening
@@ -57,11 +58,7 @@ module _ (s : Shape) (p : List ℕ) (b n k : ℕ) where
 
   lost-kept : lostAt (shapeOf s) p b n k ≡ false → k < 2 * n + 1 → (valid (shapeOf s) p b ≡ true) × (countIn (word p b) ≡ n)
   unfolding lostAt
-  lost-kept e h =
-      let g : k < 2 * n + 2 = omega arith in
-      let f : not (valid (shapeOf s) p b && eqb (countIn (word p b)) n) ≡ false = rw (lt-ltb k (2 * n + 2) g) at e in
-      let m = and-split (valid (shapeOf s) p b) _ (not-not (valid (shapeOf s) p b && eqb (countIn (word p b)) n) f) in
-      (m .0, eqb-true (countIn (word p b)) n (m .1))
+  lost-kept e h = judged-kept k (2 * n + 2) (valid (shapeOf s) p b) (countIn (word p b)) n e (omega arith)
 
 -- ---- a place past its list
 

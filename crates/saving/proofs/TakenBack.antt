@@ -15,12 +15,11 @@ use Rattle.rules.proofs.Bool.{split}
 use Rattle.rules.proofs.Sound.{sound-fits}
 use Rattle.powercut.specs.WholeRun.{entries, made}
 use Rattle.powercut.specs.Claim.{new}
-use Rattle.powercut.proofs.RunMatches.{held}
+use Rattle.powercut.proofs.RunMatches.{concluded, held}
 use Rattle.answers.specs.Meaning.{answerOf}
 use Rattle.transaction.specs.declared.Reply.{Reply}
 use Rattle.transaction.specs.Meaning.{afterOf, givenOf}
 use Rattle.saving.specs.TakenBack.{TakesBack, addressIn, both, freeOn, takenBack}
-use Rattle.saving.proofs.Uncut.{concluded}
 use Rattle.saving.proofs.Saved.{Allocated, allocate-address, made-new}
 use Rattle.saving.proofs.Ascending.{Ascends, held-ascends, strike-entered}
 

@@ -4,7 +4,6 @@ use Prim.Native.Nat.{ℕ, zero, suc, _+_, _*_, _≤_, _<_}
 use mathlib.Core.Path.{_≡_, refl, sym, ap, ap₂, _∙_, subst}
 use mathlib.Core.Logic.{_⊎_, inl, inr, ⊎-elim}
 use mathlib.Core.Bool.{true, false}
-use mathlib.Core.Option.{Option}
 use mathlib.Core.List.{List}
 use native.Mathlib.Omega.{arith}
 use lib.Dec.{eqb}
@@ -12,7 +11,7 @@ use lib.ListN.{length}
 use Rattle.rules.specs.Shape.{stagingSize}
 use Rattle.rules.specs.Header.{shapeIn}
 use Rattle.rules.specs.Staging.{Transaction, closed, committing}
-use Rattle.rules.specs.Answer.{After, Answer, Given, address, conclude, done, isRefused, passed, refused, started, stored, taken}
+use Rattle.rules.specs.Answer.{After, Given, done, isRefused}
 use Rattle.rules.specs.Plan.{Call}
 use Rattle.rules.specs.Calls.{AllTyped, begun}
 use Rattle.rules.specs.Sound.{Sound, bookOf}
@@ -23,26 +22,12 @@ use Rattle.powercut.specs.Power.{State, act, view}
 use Rattle.powercut.specs.Commit.{commitList, commitNext, commitStart, commitStep, madeAnswer, nextPhase, placeIn, startAnswer, startPhase, stepAnswer}
 use Rattle.powercut.specs.WholeRun.{Accepted, Makes, Run, atFirst, entries, holding, made, meets}
 use Rattle.powercut.specs.Claim.{new}
-use Rattle.powercut.proofs.RunMatches.{Input, accepted-none, few, live-is, place-is, start-left, start-none, step-left}
+use Rattle.powercut.proofs.RunMatches.{Input, concluded, few, live-is, place-is, start-left, start-none, step-left}
 use Rattle.powercut.proofs.PowerCut.{phase-end, phase-on, power-cut}
 use Rattle.saving.specs.Saving.{committedFor, isDone, isEnd, stepsFrom}
 use Rattle.saving.proofs.Saving.{done-ends, steps-end, steps-next}
 
 -- ---- answers
-
-pub concluded : (g : Given) (r : Option ℕ) (a : After) → Accepted (conclude g r a .answer) → conclude g r a ≡ a
-unfolding conclude
-concluded g r a f = ap (λ (o : Option ℕ). conclude g o a) (accepted-none g r a f)
-
-pub refused-is : (a : Answer) → isRefused a ≡ true → (n : ℕ) × (a ≡ refused n)
-unfolding isRefused
-refused-is (address a) e = (0, cc)
-refused-is taken e = (0, cc)
-refused-is started e = (0, cc)
-refused-is (stored k) e = (0, cc)
-refused-is (passed k) e = (0, cc)
-refused-is (done k) e = (0, cc)
-refused-is (refused n) e = (n, refl)
 
 start-answer : (g : Given) → Accepted (commitStart g .answer) → commitStart g .answer ≡ startAnswer (g .txn .count)
 unfolding commitStart

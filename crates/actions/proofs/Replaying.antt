@@ -6,7 +6,7 @@ use Prim.Native.Nat.{ℕ, _+_, _*_, _<_, _≤_}
 use native.Mathlib.Omega.{arith}
 use lib.ListN.{length, getD}
 use Rattle.rules.specs.Words.{word}
-use Rattle.rules.specs.Shape.{InZones, Shape as PoolShape, parityAt, zonesAt}
+use Rattle.rules.specs.Shape.{InZones, zonesAt}
 use Rattle.rules.proofs.Words.{length-put, put-out}
 use Rattle.rules.proofs.Shape.{row-in}
 use Rattle.powercut.proofs.Untouched.{Untouched, word-untouched}

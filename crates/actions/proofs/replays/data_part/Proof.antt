@@ -1,6 +1,5 @@
 -- `actions::replays::data_part` meets its contract. Assumes nothing.
 use Prim.Native.Nat.{_+_, _*_, _-_, _≤_}
-use mathlib.Core.Path.{_∙_}
 use native.Mathlib.Omega.{arith}
 use Rattle.rules.specs.Shape.{Shape as PoolShape}
 use Rattle.layout.specs.Meaning.{shapeOf}

@@ -166,7 +166,7 @@ module _ (s : Shape) (r : InRange (shapeOf s)) (p src : List ℕ) (at n k : ℕ)
   pool-holds : zonesAt (shapeOf s) ≤ length p
   pool-holds = shaped-room p s (record { range = r; size = h .whole })
 
-  target-in : (j : ℕ) → j < n → k < 2 * n + 1 → InZones (shapeOf s) (word src (at + 16 * j))
+  pub target-in : (j : ℕ) → j < n → k < 2 * n + 1 → InZones (shapeOf s) (word src (at + 16 * j))
   target-in j l u = fits-in (shapeOf s) (word src (at + 16 * j)) (fits-at (shapeOf s) src at n j (h .right u) l)
 
   -- step j of the list is what the code made

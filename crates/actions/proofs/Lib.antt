@@ -1,3 +1,4 @@
 pub mod Actions
 pub mod Steps
 pub mod PartMade
+pub mod Replaying

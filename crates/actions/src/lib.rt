@@ -9,6 +9,7 @@ ghost use Rattle.actions.specs.Actions.{Computed, Inside, Ready, applied
 use layout::Shape;
 
 pub mod parts; // the steps up to the next barrier
+pub mod replays; // the same for the entries of a log in the pool itself
 
 // What a step does to the pool that it meets: one aligned 8-byte store, or a barrier.
 pub enum Action {

@@ -25,7 +25,7 @@ fn log_part(s: Shape, pool: &mut [u8], staging: &[u8], n: usize, k: usize) -> us
 }
 
 // Both seals with `w`, from the one with number j on: 0 A's, 1 B's, 2 the barrier.
-fn seal_part(s: Shape, pool: &mut [u8], w: u64, j: usize) -> usize
+pub fn seal_part(s: Shape, pool: &mut [u8], w: u64, j: usize) -> usize
     requires { ⌜ (Shaped (now pool) (shapeOf s)) × (j < 3) ⌝ }
     ensures { λ r. ⌜ PartMade (shapeOf s) (sealSteps (shapeOf s) w) j 2 (now (pool .entry)) (now (pool .exit)) r ⌝ }
 {

@@ -6,15 +6,14 @@ use mathlib.Core.List.{List, _∷_, _++_}
 use native.Mathlib.Nat.{zero-add}
 use native.Mathlib.Numerals.{add-one}
 use native.Mathlib.Omega.{arith}
-use borrow.Author.Tests.{eq-eqb, eqb-true, eqb-false, ne-eqb}
-use lib.Bits.{bitOr, bitXor, and-le-r, or-add-and, or-zero-l, xor-zero-r}
+use borrow.Author.Tests.{eq-eqb, ne-eqb}
+use lib.Bits.{bitOr, bitXor, xor-zero-r}
 use lib.Dec.{eqb}
 use lib.ListN.{length, take, drop, getD, replicate, length-append, length-replicate, replicate-append-replicate}
-use lib.Seq.{ext-getD, length-take-le, take-at}
+use lib.Seq.{length-take-le, take-at}
 use Rattle.rules.specs.Parity.{skip, xorTo}
 use Rattle.rules.specs.Repair.{tabFrom}
 use Rattle.rules.specs.Scrub.{allTo}
-use Rattle.rules.proofs.Bool.{split}
 use Rattle.rules.proofs.Words.{sets-after}
 use Rattle.rules.proofs.Sets.{sets-all}
 use Rattle.rules.proofs.Repair.{tab-at, tab-cong, tab-length}

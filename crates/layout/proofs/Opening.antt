@@ -11,7 +11,6 @@ use borrow.Author.Tests.{eq-eqb, eqb-true, le-ltb, lt-ltb, ne-eqb}
 use Rattle.rules.specs.Shape.{Shape as PoolShape, pageSize, poolSize, zonesAt}
 use Rattle.rules.specs.Test.{Test, first}
 use Rattle.rules.specs.Header.{differing, headerOk, headerShape, inRange, letters, openTests, pageAt, same, shapeIn, validHeader}
-use Rattle.rules.proofs.Bool.{split}
 use Rattle.rules.proofs.Chain.{and-stop}
 use Rattle.rules.proofs.Shape.{Good as GoodShape}
 use Rattle.rules.proofs.Test.{Passed, first-passed, not-not, passed-first, passed-left}

@@ -30,7 +30,7 @@ use Rattle.powercut.specs.Steps.{commitSteps, logStores, redo}
 use Rattle.powercut.specs.Power.{State, act, isSeal, keep, view}
 use Rattle.powercut.specs.Commit.{commitList, commitMore, commitNext, commitOn, commitStart, commitStep, commitTests, isCommitting, isStored, nextPhase, placeIn, startAnswer, startPhase, stepAnswer, madeAnswer}
 use Rattle.powercut.specs.Recovery.{Recovery, recovering, recoveryList}
-use Rattle.powercut.specs.WholeRun.{Accepted, Makes, Run, begin, commit, cut, cutOff, entries, holding, made, meets, next, resuming, step}
+use Rattle.powercut.specs.WholeRun.{Accepted, Run, begin, commit, cut, cutOff, entries, holding, made, meets, next, resuming, step}
 use Rattle.powercut.specs.Claim.{End, EndsIn, Requirement3, oldOrNew}
 use Rattle.powercut.specs.Advance.{Moment, RunOn, acts, between, numberIn}
 

@@ -12,7 +12,7 @@ use lib.ListN.{length, getD}
 use borrow.Author.Tests.{eqb-true, eqb-false, ltb-false, ltb-true}
 use Rattle.rules.specs.Words.{word}
 use Rattle.rules.specs.Shape.{Shape, entryLimit, logA, logB, stagingSize}
-use Rattle.rules.specs.Test.{Test, first, when}
+use Rattle.rules.specs.Test.{first}
 use Rattle.rules.specs.Header.{openTests, shapeIn}
 use Rattle.rules.specs.Seals.{unsealed}
 use Rattle.rules.specs.Staging.{Phase, Store, Tidy, Transaction, closed, commitLength, committing, entriesAt, goodTargets, isLive, live}

@@ -104,7 +104,7 @@ fn calls_of_a_commit() {
 /// Records that are open, closed, finished or impossible, a scribbled log, a sealed pool, short staging memory, a lost header.
 #[test]
 fn refused_as_a_step() {
-    let (pool, t, staging) = staged(3);
+    let (pool, _, staging) = staged(3);
     let mut sealed = pool.clone();
     sealed[2 * 256] = 1;
     let mut none = pool.clone();
@@ -113,7 +113,7 @@ fn refused_as_a_step() {
     for before in [&pool, &sealed, &none, &pool[1..].to_vec(), &Vec::new()] {
         for (count, phase) in [(3, 0), (3, 1), (3, 2), (3, 15), (3, 29), (0, 2), (128, 2), (usize::MAX, usize::MAX)] {
             for staging in [&staging[..], &staging[1..]] {
-                let t = Transaction { count, phase, ..t };
+                let t = Transaction { count, phase };
                 let (mut by_steps, mut by_advance) = (before.clone(), before.clone());
                 let wanted = stepped(t, &mut by_steps, staging);
                 assert_eq!(commit_advance(t, &mut by_advance, staging), wanted);

@@ -160,9 +160,12 @@ impl Pmemobj {
     }
 }
 
+/// Tells the version of a peer that was there.
+type Version = Option<fn() -> String>;
+
 /// The peers that were there when this was compiled, with their versions, and those that were not.
 pub fn peers() -> (Vec<String>, Vec<&'static str>) {
-    let all: [(&'static str, Option<fn() -> String>); 3] = [("zlib", ZLIB), ("ISA-L", ISAL), ("libpmemobj", PMEMOBJ)];
+    let all: [(&'static str, Version); 3] = [("zlib", ZLIB), ("ISA-L", ISAL), ("libpmemobj", PMEMOBJ)];
     let there = all.iter().filter_map(|(name, version)| version.map(|version| format!("{name} {}", version())));
     (there.collect(), all.iter().filter(|(_, version)| version.is_none()).map(|&(name, _)| name).collect())
 }
@@ -170,10 +173,9 @@ pub fn peers() -> (Vec<String>, Vec<&'static str>) {
 macro_rules! version {
     ($peer:ident, $name:ident, $function:ident) => {
         #[cfg($peer)]
-        const $name: Option<fn() -> String> =
-            Some(|| unsafe { std::ffi::CStr::from_ptr(boundary::$function()) }.to_string_lossy().into_owned());
+        const $name: Version = Some(|| unsafe { std::ffi::CStr::from_ptr(boundary::$function()) }.to_string_lossy().into_owned());
         #[cfg(not($peer))]
-        const $name: Option<fn() -> String> = None;
+        const $name: Version = None;
     };
 }
 

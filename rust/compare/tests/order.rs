@@ -8,7 +8,7 @@ use compare::layout::{put, Shape, LOGS};
 use compare::random::Random;
 use compare::trace::{bytes_mut, watched, Change};
 use compare::{pools, staged::STAGING};
-use linked::{Recovery, Transaction, BARRIER, DONE, STARTED, STORED};
+use linked::{Recovery, RecoveryReply, Reply, Transaction, BARRIER, DONE, STARTED, STORED};
 
 const SHAPE: Shape = Shape { rows: 2, cols: 4, zones: 1 };
 const COUNTS: [usize; 5] = [1, 2, 10, 26, 127];
@@ -51,60 +51,72 @@ fn same(seen: &[Change], wanted: &[Store], what: &str) {
     }
 }
 
-/// Single steps from this record on up to a barrier or the end: the stores, the pool, and the last answer.
-macro_rules! stepped {
-    ($pool:expr, $record:expr, $field:ident, $step:expr) => {{
-        let (mut pool, mut record, mut stores) = ($pool.to_vec(), $record, Vec::new());
-        let reply = loop {
+/// The two numbers of a transaction's or a recovery's record.
+type Record = [usize; 2];
+
+/// An answer: its kind, its value and the record handed back.
+#[derive(Clone, Copy, Debug, PartialEq, Eq)]
+struct Answer {
+    kind: usize,
+    value: usize,
+    record: Record,
+}
+
+/// A commit or a recovery: how it makes one step, and how it goes on to the next barrier.
+struct Steps<'a> {
+    step: &'a dyn Fn(Record, &mut [u8]) -> Answer,
+    advance: &'a dyn Fn(Record, &mut [u8]) -> Answer,
+}
+
+impl Steps<'_> {
+    /// Single steps from this record on, up to a barrier or the end: the stores, the pool, and the last answer.
+    fn single(&self, pool: &[u64], mut record: Record) -> (Vec<Store>, Vec<u64>, Answer) {
+        let (mut pool, mut stores) = (pool.to_vec(), Vec::new());
+        loop {
             let before = pool.clone();
-            let reply = $step(record, bytes_mut(&mut pool));
+            let answer = (self.step)(record, bytes_mut(&mut pool));
             stores.extend(difference(&before, &pool));
-            if reply.kind != STORED {
-                break reply;
+            if answer.kind != STORED {
+                return (stores, pool, answer);
             }
-            record = reply.$field;
-        };
-        (stores, pool, reply)
-    }};
-}
+            record = answer.record;
+        }
+    }
 
-/// One call up to the next barrier, watched; its stores, how many, and what it answers are those of single steps.
-macro_rules! advances_as_steps {
-    ($pool:expr, $record:expr, $field:ident, $step:expr, $advance:expr) => {{
-        let (wanted, after, reply) = stepped!($pool, $record, $field, $step);
-        assert!([BARRIER, DONE].contains(&reply.kind), "{reply:?}");
-        let (answer, seen, instructions) = watched(&mut $pool, |pool| $advance($record, pool));
-        let what = format!("{:?}", $record);
-        same(&seen, &wanted, &what);
-        assert_eq!(answer, reply);
-        assert!($pool == after, "{what}: the bytes");
-        (reply, wanted.len(), instructions)
-    }};
-}
-
-/// Goes on from this place of the commit to its end by watched calls; answers stores and instructions.
-fn watch_commit(pool: &mut Vec<u64>, staging: &[u8], mut t: Transaction) -> (usize, usize) {
-    let (mut stores, mut instructions) = (0, 0);
-    loop {
-        let step = |t, pool: &mut [u8]| linked::commit_step(t, pool, staging);
-        let advance = |t, pool: &mut [u8]| linked::commit_advance(t, pool, staging);
-        let (reply, made, run) = advances_as_steps!(*pool, t, transaction, step, advance);
-        (stores, instructions, t) = (stores + made, instructions + run, reply.transaction);
-        if reply.kind == DONE {
-            return (stores, instructions);
+    /// Watched calls from this record on to the end: stores, answers and bytes are those of single steps. How many stores and instructions.
+    fn watch(&self, pool: &mut [u64], mut record: Record) -> (usize, usize) {
+        let (mut stores, mut instructions) = (0, 0);
+        loop {
+            let (wanted, after, last) = self.single(pool, record);
+            assert!([BARRIER, DONE].contains(&last.kind), "{last:?}");
+            let (answer, seen, made) = watched(pool, |pool| (self.advance)(record, pool));
+            same(&seen, &wanted, &format!("{record:?}"));
+            assert_eq!(answer, last);
+            assert!(pool == after, "{record:?}: the bytes");
+            stores += wanted.len();
+            instructions += made;
+            if answer.kind == DONE {
+                return (stores, instructions);
+            }
+            record = answer.record;
         }
     }
 }
 
-fn watch_recovery(pool: &mut Vec<u64>, mut r: Recovery) -> (usize, usize) {
-    let (mut stores, mut instructions) = (0, 0);
-    loop {
-        let (reply, made, run) = advances_as_steps!(*pool, r, recovery, linked::recover_step, linked::recover_advance);
-        (stores, instructions, r) = (stores + made, instructions + run, reply.recovery);
-        if reply.kind == DONE {
-            return (stores, instructions);
-        }
-    }
+fn watch_commit(pool: &mut [u64], staging: &[u8], t: Transaction) -> (usize, usize) {
+    let transaction = |[count, phase]: Record| Transaction { count, phase };
+    let answer = |Reply { kind, value, transaction: t }| Answer { kind, value, record: [t.count, t.phase] };
+    let step = |record, pool: &mut [u8]| answer(linked::commit_step(transaction(record), pool, staging));
+    let advance = |record, pool: &mut [u8]| answer(linked::commit_advance(transaction(record), pool, staging));
+    Steps { step: &step, advance: &advance }.watch(pool, [t.count, t.phase])
+}
+
+fn watch_recovery(pool: &mut [u64], r: Recovery) -> (usize, usize) {
+    let recovery = |[work, phase]: Record| Recovery { work, phase };
+    let answer = |RecoveryReply { kind, value, recovery: r }| Answer { kind, value, record: [r.work, r.phase] };
+    let step = |record, pool: &mut [u8]| answer(linked::recover_step(recovery(record), pool));
+    let advance = |record, pool: &mut [u8]| answer(linked::recover_advance(recovery(record), pool));
+    Steps { step: &step, advance: &advance }.watch(pool, [r.work, r.phase])
 }
 
 fn started(pool: &mut [u64], staging: &[u8], count: usize) -> Transaction {

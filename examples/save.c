@@ -12,7 +12,6 @@
 #include "pool.h"
 
 #define LENGTH POOL_SIZE(2, 2, 1) /* 2 data rows of 2 pages, 1 zone */
-#define ALL_STEPS ((size_t)-1)
 
 static uint64_t words[LENGTH / 8]; /* begins at a multiple of 8, as a pool does that is to survive power cuts */
 static uint8_t *const pool = (uint8_t *)words;
@@ -51,23 +50,32 @@ static pool_transaction taken(const char *call, pool_reply reply)
     return reply.transaction;
 }
 
-/* Commits, with a barrier wherever the library asks for one; the power fails if there are more than `limit` steps. */
-static void commit(pool_transaction transaction, size_t limit)
+/* Commits: each call makes the stores up to the next barrier, which is passed after it. */
+static void commit(pool_transaction transaction)
 {
     pool_reply reply = pool_commit(transaction, pool, LENGTH, staging, POOL_STAGING);
     taken("commit", reply);
     while (reply.kind != POOL_DONE) {
-        if (reply.value == limit) {
-            power_cut();
-            printf("power cut after step %zu of the commit\n", limit);
-            return;
-        }
+        reply = pool_commit_advance(reply.transaction, pool, LENGTH, staging, POOL_STAGING);
+        taken("commit to the next barrier", reply);
+        barrier();
+    }
+    printf("committed in %zu steps\n", reply.value);
+}
+
+/* Commits by single steps, until the power fails after so many: on a device it can fail there within pool_commit_advance. */
+static void commit_until_cut(pool_transaction transaction, size_t steps)
+{
+    pool_reply reply = pool_commit(transaction, pool, LENGTH, staging, POOL_STAGING);
+    taken("commit", reply);
+    while (reply.value != steps) {
         reply = pool_commit_step(reply.transaction, pool, LENGTH, staging, POOL_STAGING);
         taken("commit step", reply);
         if (reply.kind != POOL_STORED)
             barrier();
     }
-    printf("committed in %zu steps\n", reply.value);
+    power_cut();
+    printf("power cut after step %zu of the commit\n", steps);
 }
 
 /* After every power-up, before any other call. */
@@ -76,10 +84,9 @@ static void recover(void)
     pool_recovery_reply reply = pool_recover(pool, LENGTH);
     require("recover", reply.kind == POOL_REFUSED ? reply.value : 0);
     while (reply.kind != POOL_DONE) {
-        reply = pool_recover_step(reply.recovery, pool, LENGTH);
-        require("recovery step", reply.kind == POOL_REFUSED ? reply.value : 0);
-        if (reply.kind != POOL_STORED)
-            barrier();
+        reply = pool_recover_advance(reply.recovery, pool, LENGTH);
+        require("recover to the next barrier", reply.kind == POOL_REFUSED ? reply.value : 0);
+        barrier();
     }
     printf("recovered in %zu steps\n", reply.value);
 }
@@ -88,15 +95,15 @@ static void recover(void)
 static size_t save(uint32_t tag, const char *text)
 {
     pool_reply reply = pool_allocate(pool_begin(), pool, LENGTH, staging, POOL_STAGING, tag, (const uint8_t *)text, strlen(text));
-    commit(taken("allocate", reply), ALL_STEPS);
+    commit(taken("allocate", reply));
     return reply.value;
 }
 
-/* Other bytes for an object, in a transaction of its own. */
-static void replace(size_t address, const char *text, size_t limit)
+/* Other bytes for an object, in a transaction of its own, whose commit is cut after so many steps. */
+static void replace_until_cut(size_t address, const char *text, size_t steps)
 {
     pool_reply reply = pool_write(pool_begin(), pool, LENGTH, staging, POOL_STAGING, address, 0, (const uint8_t *)text, strlen(text));
-    commit(taken("write", reply), limit);
+    commit_until_cut(taken("write", reply), steps);
 }
 
 static void show(size_t address)
@@ -115,11 +122,11 @@ int main(void)
     size_t address = save(100, "1 kHz, 0.5 V");
     show(address);
 
-    replace(address, "2 kHz, 1.0 V", 9); /* no seal is stored yet: the old bytes stay */
+    replace_until_cut(address, "2 kHz, 1.0 V", 9); /* no seal is stored yet: the old bytes stay */
     recover();
     show(address);
 
-    replace(address, "2 kHz, 1.0 V", 18); /* both seals have reached memory: the new bytes are there, after recovery */
+    replace_until_cut(address, "2 kHz, 1.0 V", 18); /* both seals have reached memory: the new bytes are there, after recovery */
     if (pool_look(pool, LENGTH, address).refusal != POOL_REFUSED_SEALED) {
         printf("look before recovery: not refused\n");
         return 1;

@@ -8,10 +8,12 @@
  * Bytes may lie at any address; but a pool that is to survive power cuts begins at a multiple of 8, so that the store of a step is one
  * aligned store of 8 bytes, which the memory keeps or loses whole.
  *
- * At every power-up: pool_recover and its steps until POOL_DONE; then pool_mend, which stores nothing if both headers are valid, and a
- * barrier; pool_scrub at leisure. A barrier is passed when every store made into the pool so far is in the memory that keeps its bytes
- * without power: on a cached x86-64, clwb for each line stored to, then sfence. docs/DEVICE.md says more, docs/REFUSALS.md what to do
- * when a call is refused.
+ * At every power-up: pool_recover, then pool_recover_advance until POOL_DONE; then pool_mend, which stores nothing if both headers are
+ * valid, and a barrier; pool_scrub at leisure. A save: pool_begin; pool_allocate, pool_write, pool_free, as many as are to be kept or
+ * lost together; pool_commit; then pool_commit_advance until POOL_DONE, which is five calls. After each POOL_BARRIER and POOL_DONE the
+ * caller passes a barrier. It is passed when every store made into the pool so far is in the memory that keeps its bytes without power:
+ * on a cached x86-64, clwb for each line stored to, then sfence. docs/DEVICE.md says more, docs/REFUSALS.md what to do when a call is
+ * refused.
  *
  * The library needs memcpy and memset, has no data, runs at any address, and takes at most 768 bytes of stack. It uses the SSE2
  * registers, which interrupt code must save, and the 128 bytes below the stack pointer, which interrupt code must leave alone. Between
@@ -201,6 +203,16 @@ pool_reply pool_commit(pool_transaction transaction, const uint8_t *pool, size_t
 pool_reply pool_commit_step(pool_transaction transaction, uint8_t *pool, size_t pool_length, const uint8_t *staging,
                             size_t staging_length);
 
+/*
+ * Makes the commit's next steps, up to the next barrier and with it: a step, and the next one as long as POOL_STORED is the answer. From
+ * the start these are 4n + 1, 3, n + 1, n + 1 and 3 steps for n entries. The answer is that of the last step made, POOL_BARRIER or
+ * POOL_DONE, and so is the record handed back; refusals as for pool_commit_step, at the first of the steps alone, so that a refused call
+ * changes nothing. Each word is stored as pool_commit_step stores it, in the same order, and the power may fail between any two. Both
+ * calls may follow each other in any way; pool_commit_step is for whoever must bound the time of one call.
+ */
+pool_reply pool_commit_advance(pool_transaction transaction, uint8_t *pool, size_t pool_length, const uint8_t *staging,
+                               size_t staging_length);
+
 /* ---- Recovery, after a power cut, before any other call on the pool. A recovery that is cut is started anew. */
 
 /* Starts a recovery and makes no store. POOL_STARTED, or POOL_DONE with 0 if there is nothing to do; refusals 2, 3, 4, 22. */
@@ -208,6 +220,12 @@ pool_recovery_reply pool_recover(const uint8_t *pool, size_t pool_length);
 
 /* Makes the recovery's next step, as pool_commit_step does. Refusals 2, 3, 4, 10, 29. */
 pool_recovery_reply pool_recover_step(pool_recovery recovery, uint8_t *pool, size_t pool_length);
+
+/*
+ * Makes the recovery's next steps, up to the next barrier and with it, as pool_commit_advance does: from the start n + 1, n + 1 and 3
+ * steps for n entries replayed, 3 if seals are cleared only. Refusals as for pool_recover_step.
+ */
+pool_recovery_reply pool_recover_advance(pool_recovery recovery, uint8_t *pool, size_t pool_length);
 
 #ifdef __cplusplus
 }

@@ -7,13 +7,13 @@ fn main() {
     println!("cargo:rerun-if-changed=c");
     let compiler = ["gcc", "cc"].into_iter().find(|name| version(name).is_some()).expect("a C compiler: gcc or cc");
     let out = PathBuf::from(env::var_os("OUT_DIR").unwrap());
-    let mut objects = vec![compile(compiler, &out, "loops").expect("c/loops.c does not compile")];
+    let mut objects = vec![compile(compiler, &out, "loops")];
     let mut libraries = Vec::new();
-    for (name, library) in [("zlib", "z"), ("isal", "isal"), ("pmemobj", "pmemobj")] {
+    for (name, header, library) in [("zlib", "zlib.h", "z"), ("isal", "isa-l.h", "isal"), ("pmemobj", "libpmemobj.h", "pmemobj")] {
         println!("cargo:rustc-check-cfg=cfg({name})");
-        if let Some(object) = compile(compiler, &out, name) {
+        if installed(compiler, &out, header) {
             println!("cargo:rustc-cfg={name}");
-            objects.push(object);
+            objects.push(compile(compiler, &out, name));
             libraries.push(library);
         }
     }
@@ -36,10 +36,19 @@ fn version(program: &str) -> Option<String> {
     String::from_utf8(output.stdout).ok()?.lines().next().map(str::to_owned)
 }
 
-/// The object file, if the C file compiles: the header of its library is there.
-fn compile(compiler: &str, out: &Path, name: &str) -> Option<PathBuf> {
+/// Whether the compiler finds the header of a library. Cargo looks again if it is put there later.
+fn installed(compiler: &str, out: &Path, header: &str) -> bool {
+    println!("cargo:rerun-if-changed=/usr/include/{header}");
+    let source = out.join("header.c");
+    std::fs::write(&source, format!("#include <{header}>\n")).expect("a file for the compiler");
+    Command::new(compiler).arg("-fsyntax-only").arg(&source).output().is_ok_and(|output| output.status.success())
+}
+
+/// The object file.
+fn compile(compiler: &str, out: &Path, name: &str) -> PathBuf {
     let object = out.join(format!("{name}.o"));
     let source = format!("c/{name}.c");
-    let output = Command::new(compiler).args(["-O2", "-Wall", "-c", &source, "-o"]).arg(&object).output().ok()?;
-    output.status.success().then_some(object)
+    let status = Command::new(compiler).args(["-O2", "-Wall", "-c", &source, "-o"]).arg(&object).status();
+    assert!(status.is_ok_and(|status| status.success()), "{source} does not compile");
+    object
 }

@@ -1,11 +1,11 @@
-/* libpmemobj on tmpfs: objects of 120 bytes allocated, filled and freed in transactions. */
+/* libpmemobj on tmpfs: an object of 120 bytes allocated and filled in a transaction, and freed in another. */
 #include <libpmemobj.h>
 #include <stddef.h>
 #include <stdint.h>
 #include <string.h>
 #include <unistd.h>
 
-enum { BODY = 120 };
+enum { BODY = 120, TYPE = 1 };
 
 /* Opens a fresh pool file; NULL if that fails. */
 void *pmemobj_open_fresh(const char *path)
@@ -20,23 +20,34 @@ void pmemobj_end(void *pool, const char *path)
     unlink(path);
 }
 
-/* Saves one object in a transaction of its own, then frees it in another. 0, or -1 if a transaction was aborted. */
-int pmemobj_save_and_free(void *pool, const uint8_t *body)
+/* Saves one object in a transaction of its own. 0, or -1 if it was aborted. */
+int pmemobj_save(void *pool, const uint8_t *body, PMEMoid *saved)
 {
     volatile int result = 0;
-    PMEMoid volatile saved = OID_NULL;
     TX_BEGIN((PMEMobjpool *)pool)
     {
-        PMEMoid object = pmemobj_tx_alloc(BODY, 1);
-        memcpy(pmemobj_direct(object), body, BODY);
-        saved = object;
+        *saved = pmemobj_tx_alloc(BODY, TYPE);
+        memcpy(pmemobj_direct(*saved), body, BODY);
     }
     TX_ONABORT { result = -1; }
     TX_END
-    if (result != 0)
-        return result;
-    TX_BEGIN((PMEMobjpool *)pool) { pmemobj_tx_free(saved); }
+    return result;
+}
+
+/* Frees it in another. */
+int pmemobj_release(void *pool, const PMEMoid *saved)
+{
+    volatile int result = 0;
+    TX_BEGIN((PMEMobjpool *)pool) { pmemobj_tx_free(*saved); }
     TX_ONABORT { result = -1; }
     TX_END
     return result;
+}
+
+#define TEXT(x) #x
+#define VERSION(major, minor) "interface " TEXT(major) "." TEXT(minor)
+
+const char *version_of_pmemobj(void)
+{
+    return VERSION(PMEMOBJ_MAJOR_VERSION, PMEMOBJ_MINOR_VERSION);
 }

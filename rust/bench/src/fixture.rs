@@ -29,6 +29,13 @@ impl Shape {
         self.zone_start(self.zones)
     }
 
+    /// Where the parity word of a data word lies.
+    pub fn parity_place(self, target: usize) -> usize {
+        let zone = (self.rows + 1) * self.row();
+        let start = ZONES + (target - ZONES) / zone * zone;
+        start + self.rows * self.row() + (target - start) % self.row()
+    }
+
     pub fn name(self) -> String {
         format!("({},{},{})", self.rows, self.cols, self.zones)
     }

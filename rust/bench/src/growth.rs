@@ -1,5 +1,5 @@
 //! How the cost grows with entries, heads and zones, in words.
-use crate::fixture::{LARGEST, SMALL};
+use crate::fixture::{Shape, LARGEST, SMALL};
 use crate::report::Row;
 
 /// A series of rows by the number in their size.
@@ -29,25 +29,48 @@ fn times(library: f64, rust: f64) -> String {
     format!("{} ({})", show(library), show(rust))
 }
 
+/// All rows of this call or list of steps over pools of this shape.
+fn series<'a>(rows: &'a [Row], what: &str, shape: Shape, more: &str) -> Series<'a> {
+    Series::new(rows, format!("{what}, {}{more}", shape.name()))
+}
+
 pub fn words(rows: &[Row]) -> String {
-    let series = |what: &str, shape: &str, more: &str| Series::new(rows, format!("{what}, {shape}{more}"));
-    let (small, largest) = (SMALL.name(), LARGEST.name());
-    let ascending = series("commit step", &largest, ", ascending");
-    let shuffled = series("commit step", &largest, ", not ascending");
-    let recovery = series("recovery step", &largest, "");
-    let heads = |call| series(call, &largest, ", heads in zone 0");
-    let zones = series("allocate 120 bytes", &largest, ", full zones before the fit");
-    let few = series("write 16 bytes", &small, " nearly full");
-    let many = series("write 16 bytes", &largest, " nearly full");
-    let whole = |series: &Series, steps: f64| times(series.at(127.0).library * steps, series.at(127.0).rust * steps);
-    [
-        "How the cost grows; plain Rust in brackets.\n".to_owned(),
-        format!("- A commit step with n entries, ascending: each entry adds {} from 10 to 60,", ascending.each(10.0, 60.0)),
-        format!("  {} from 60 to 127. Not ascending:", ascending.each(60.0, 127.0)),
-        format!("  {}, then {}.", shuffled.each(10.0, 60.0), shuffled.each(60.0, 127.0)),
-        format!("  A commit has 6n + 9 steps: with 127 entries, ascending, {} in all.", whole(&ascending, 771.0)),
-        format!("- A recovery step: each entry adds {} from 10 to 60,", recovery.each(10.0, 60.0)),
-        format!("  {} from 60 to 127; a recovery of 127 entries takes {}.", recovery.each(60.0, 127.0), whole(&recovery, 259.0)),
+    let parts = [commits(rows), recoveries(rows), calls(rows)];
+    "How the cost grows; plain Rust in brackets.\n\n".to_owned() + &parts.concat().join("\n") + "\n"
+}
+
+fn commits(rows: &[Row]) -> Vec<String> {
+    let whole = series(rows, "commit by advance", LARGEST, ", ascending");
+    let whole_shuffled = series(rows, "commit by advance", LARGEST, ", not ascending");
+    let step = series(rows, "commit step", LARGEST, ", ascending");
+    let step_shuffled = series(rows, "commit step", LARGEST, ", not ascending");
+    vec![
+        format!("- A whole commit by advance, ascending: each entry adds {} from 10 to 60,", whole.each(10.0, 60.0)),
+        format!("  {} from 60 to 127. Not ascending: {},", whole.each(60.0, 127.0), whole_shuffled.each(10.0, 60.0)),
+        format!("  then {}.", whole_shuffled.each(60.0, 127.0)),
+        format!("- A single commit step, ascending: each entry adds {} from 10 to 60,", step.each(10.0, 60.0)),
+        format!("  {} from 60 to 127. Not ascending: {},", step.each(60.0, 127.0), step_shuffled.each(10.0, 60.0)),
+        format!("  then {}. A commit has 6n + 9 steps.", step_shuffled.each(60.0, 127.0)),
+    ]
+}
+
+fn recoveries(rows: &[Row]) -> Vec<String> {
+    let whole = series(rows, "recovery by advance", LARGEST, "");
+    let step = series(rows, "recovery step", LARGEST, "");
+    vec![
+        format!("- A whole recovery by advance: each entry adds {} from 10 to 60,", whole.each(10.0, 60.0)),
+        format!("  {} from 60 to 127.", whole.each(60.0, 127.0)),
+        format!("- A single recovery step: each entry adds {} from 10 to 60,", step.each(10.0, 60.0)),
+        format!("  {} from 60 to 127. A recovery has 2n + 5 steps.", step.each(60.0, 127.0)),
+    ]
+}
+
+fn calls(rows: &[Row]) -> Vec<String> {
+    let heads = |call| series(rows, call, LARGEST, ", heads in zone 0");
+    let zones = series(rows, "allocate 120 bytes", LARGEST, ", full zones before the fit");
+    let few = series(rows, "write 16 bytes", SMALL, " nearly full");
+    let many = series(rows, "write 16 bytes", LARGEST, " nearly full");
+    vec![
         format!("- Each head of the zone adds {} to allocate", heads("allocate 120 bytes").each(101.0, 1001.0)),
         format!("  and {} to write, from 101 to 1001 heads.", heads("write 16 bytes").each(101.0, 1001.0)),
         format!("- Each full zone before the fit, 1280 heads, adds {} to allocate from 4 to 8 zones,", zones.each(4.0, 8.0)),
@@ -55,6 +78,4 @@ pub fn words(rows: &[Row]) -> String {
         format!("- Each entry staged before adds to write {} in a zone with 5 heads,", few.each(60.0, 120.0)),
         format!("  {} in one with 1280, from 60 to 120 entries.", many.each(60.0, 120.0)),
     ]
-    .join("\n")
-        + "\n"
 }

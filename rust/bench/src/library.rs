@@ -12,8 +12,10 @@ pub struct Library {
     pub free: fn(Transaction, &[u8], &mut [u8], usize) -> Reply,
     pub commit: fn(Transaction, &[u8], &[u8]) -> Reply,
     pub commit_step: fn(Transaction, &mut [u8], &[u8]) -> Reply,
+    pub commit_advance: fn(Transaction, &mut [u8], &[u8]) -> Reply,
     pub recover: fn(&[u8]) -> RecoveryReply,
     pub recover_step: fn(Recovery, &mut [u8]) -> RecoveryReply,
+    pub recover_advance: fn(Recovery, &mut [u8]) -> RecoveryReply,
 }
 
 macro_rules! library {
@@ -28,8 +30,10 @@ macro_rules! library {
             free: $from::free,
             commit: $from::commit,
             commit_step: $from::commit_step,
+            commit_advance: $from::commit_advance,
             recover: $from::recover,
             recover_step: $from::recover_step,
+            recover_advance: $from::recover_advance,
         };
     };
 }
@@ -37,28 +41,51 @@ macro_rules! library {
 library!(PROVED, linked);
 library!(PLAIN, reference);
 
+/// How a commit or a recovery is driven to its end: by single steps, or up to the next barrier at a time.
+#[derive(Clone, Copy)]
+pub enum Way {
+    Steps,
+    Advance,
+}
+
 impl Library {
     /// A fresh transaction over this pool.
     pub fn open(&self, _pool: &[u8]) -> Transaction {
         (self.begin)()
     }
 
-    /// Commits to the end; the number of steps.
-    pub fn save(&self, t: Transaction, pool: &mut [u8], staging: &[u8]) -> usize {
+    /// Commits to the end, and passes these barriers; the number of steps.
+    pub fn save_with(&self, way: Way, t: Transaction, pool: &mut [u8], staging: &[u8], mut barrier: impl FnMut(&[u8])) -> usize {
+        let go_on = match way {
+            Way::Steps => self.commit_step,
+            Way::Advance => self.commit_advance,
+        };
         let mut reply = (self.commit)(t, pool, staging);
         while reply.kind != reference::DONE {
             assert_ne!(reply.kind, reference::REFUSED);
-            reply = (self.commit_step)(reply.transaction, pool, staging);
+            reply = go_on(reply.transaction, pool, staging);
+            if reply.kind != reference::STORED {
+                barrier(pool);
+            }
         }
         reply.value
     }
 
-    /// Recovers to the end; the number of steps.
-    pub fn restart(&self, pool: &mut [u8]) -> usize {
+    /// Commits to the end, without a barrier; the number of steps.
+    pub fn save(&self, way: Way, t: Transaction, pool: &mut [u8], staging: &[u8]) -> usize {
+        self.save_with(way, t, pool, staging, |_| ())
+    }
+
+    /// Recovers to the end, without a barrier; the number of steps.
+    pub fn restart(&self, way: Way, pool: &mut [u8]) -> usize {
+        let go_on = match way {
+            Way::Steps => self.recover_step,
+            Way::Advance => self.recover_advance,
+        };
         let mut reply = (self.recover)(pool);
         while reply.kind != reference::DONE {
             assert_ne!(reply.kind, reference::REFUSED);
-            reply = (self.recover_step)(reply.recovery, pool);
+            reply = go_on(reply.recovery, pool);
         }
         reply.value
     }

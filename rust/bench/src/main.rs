@@ -1,6 +1,9 @@
-//! Measures the proved library beside plain Rust, C loops and other libraries. Prints one table, and writes docs/benchmark.svg;
-//! `--table FILE` writes the table there too, behind what stands in the file up to the line `<!-- measured -->`.
+//! Measures the proved library beside plain Rust, C loops and other libraries, as often as `--runs N` says. Prints the ten rows that matter,
+//! the aims and one long table, and draws docs/benchmark.svg; `--page FILE` writes all of it into that page, each part between its marks.
+mod aims;
+mod barrier;
 mod chart;
+mod chosen;
 mod commit;
 mod fixture;
 mod growth;
@@ -10,32 +13,71 @@ mod measure;
 mod native;
 mod pages;
 mod report;
+mod runs;
+mod saves;
 mod staging;
 
+use report::Row;
+use runs::Runs;
 use std::env;
+use std::os::unix::process::CommandExt;
 use std::path::Path;
+use std::process::Command;
+
+const USAGE: &str = "usage: bench [--runs N] [--page FILE]";
 
 fn main() -> Result<(), String> {
-    let file = match env::args().skip(1).collect::<Vec<_>>().as_slice() {
-        [] => None,
-        [option, file] if option == "--table" => Some(file.clone()),
-        _ => return Err("usage: bench [--table FILE]".to_owned()),
-    };
-    let groups =
-        [pages::check, pages::scrub, pages::repair, staging::calls, staging::growth, commit::steps, commit::saves, commit::recoveries];
-    let rows: Vec<_> = groups.into_iter().flat_map(|group| group()).collect();
-    let text = format!("{}\n{}\n{}", machine::heading(), report::table(&rows), growth::words(&rows));
-    print!("{text}");
-    let chart = Path::new(env!("CARGO_MANIFEST_DIR")).join("../../docs/benchmark.svg");
-    write(&chart, &chart::svg(&rows))?;
-    file.map_or(Ok(()), |file| write(Path::new(&file), &(kept(Path::new(&file)) + &text)))
+    let (count, page) = options(env::args().skip(1))?;
+    flush_by_instructions()?;
+    let runs = Runs((1..=count).map(run).collect());
+    let rows = runs.medians();
+    let first = format!("{}\n{}\n{}", machine::heading(count), chosen::table(&runs), aims::table(&runs));
+    let rest = format!("{}\n{}", report::table(&rows), growth::words(&rows));
+    print!("{first}\n{rest}");
+    write(&Path::new(env!("CARGO_MANIFEST_DIR")).join("../../docs/benchmark.svg"), &chart::svg(&rows))?;
+    let Some(page) = page else { return Ok(()) };
+    let text = std::fs::read_to_string(&page).map_err(|e| format!("{page}: {e}"))?;
+    let text = between(&between(&text, "ten rows", &first)?, "all rows", &rest)?;
+    write(Path::new(&page), &text)
 }
 
-/// The part of the file that stays.
-fn kept(path: &Path) -> String {
-    const MARK: &str = "<!-- measured -->\n";
-    let old = std::fs::read_to_string(path).unwrap_or_default();
-    old.split_once(MARK).map_or(String::new(), |(head, _)| format!("{head}{MARK}\n"))
+/// The number of runs, and the page to write into.
+fn options(mut arguments: impl Iterator<Item = String>) -> Result<(usize, Option<String>), String> {
+    let (mut runs, mut page) = (1, None);
+    while let Some(option) = arguments.next() {
+        let value = arguments.next().ok_or(USAGE)?;
+        match option.as_str() {
+            "--runs" => runs = value.parse().ok().filter(|&runs| runs > 0).ok_or(USAGE)?,
+            "--page" => page = Some(value),
+            _ => return Err(USAGE.to_owned()),
+        }
+    }
+    Ok((runs, page))
+}
+
+/// libpmemobj flushes by instructions on tmpfs only if this variable is set when the program starts: it is started again with it.
+fn flush_by_instructions() -> Result<(), String> {
+    const FORCE: &str = "PMEM_IS_PMEM_FORCE";
+    if !cfg!(pmemobj) || env::var_os(FORCE).is_some() {
+        return Ok(());
+    }
+    let program = env::current_exe().map_err(|e| e.to_string())?;
+    Err(Command::new(program).args(env::args_os().skip(1)).env(FORCE, "1").exec().to_string())
+}
+
+fn run(number: usize) -> Vec<Row> {
+    eprintln!("run {number}");
+    let groups =
+        [pages::check, pages::scrub, pages::repair, staging::calls, staging::growth, commit::commits, saves::saves, commit::recoveries];
+    groups.into_iter().flat_map(|group| group()).collect()
+}
+
+/// The page with this text in place of what stands between the two marks of this name.
+fn between(page: &str, name: &str, text: &str) -> Result<String, String> {
+    let (begin, end) = (format!("<!-- {name} -->\n"), format!("<!-- end of {name} -->\n"));
+    let (head, rest) = page.split_once(&begin).ok_or(format!("the page has no line {begin}"))?;
+    let (_, tail) = rest.split_once(&end).ok_or(format!("the page has no line {end}"))?;
+    Ok(format!("{head}{begin}\n{text}\n{end}{tail}"))
 }
 
 fn write(path: &Path, text: &str) -> Result<(), String> {

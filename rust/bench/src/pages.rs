@@ -1,7 +1,7 @@
 //! Rows over bytes and whole pools: check, scrub, repair.
 use crate::fixture::{filled, Pool, Shape, LARGEST, PAGE, SMALL};
 use crate::library::{PLAIN, PROVED};
-use crate::measure::best;
+use crate::measure::{best, timed};
 use crate::native;
 use crate::report::{Row, Unit};
 use std::hint::black_box;
@@ -15,8 +15,7 @@ fn check_row(bytes: &[u8], size: &str) -> Row {
     let mut functions = vec![PROVED.check, PLAIN.check, native::loop_check];
     functions.extend(native::zlib_check());
     let right = reference::check(bytes);
-    let mut calls: Vec<_> = functions.iter().map(|check| || assert_eq!(check(black_box(bytes)), right)).collect();
-    let times = best(&mut calls.iter_mut().map(|call| call as &mut dyn FnMut()).collect::<Vec<_>>());
+    let times = best(functions.iter().map(|check| timed(move || assert_eq!(check(black_box(bytes)), right))).collect());
     let row = Row::new("check", "check", size, Unit::Rate { bytes: bytes.len() }, times[0], times[1]);
     Row { c: Some(times[2]), other: times[3..].iter().map(|&time| ("zlib", time)).collect(), ..row }
 }
@@ -30,10 +29,10 @@ fn scrub_row(shape: Shape, body: usize) -> Row {
     let (pool, addresses) = filled(shape, body, usize::MAX);
     let right = reference::scrub(&pool);
     assert_eq!((right.objects, right.damaged, right.columns), (addresses.len(), 0, 0));
-    let mut proved = || assert_eq!((PROVED.scrub)(black_box(&pool)), right);
-    let mut plain = || assert_eq!((PLAIN.scrub)(black_box(&pool)), right);
-    let mut c = || assert_eq!(native::loop_scrub(black_box(&pool), shape), 0);
-    let times = best(&mut [&mut proved, &mut plain, &mut c]);
+    let proved = timed(|| assert_eq!((PROVED.scrub)(black_box(&pool)), right));
+    let plain = timed(|| assert_eq!((PLAIN.scrub)(black_box(&pool)), right));
+    let c = timed(|| assert_eq!(native::loop_scrub(black_box(&pool), shape), 0));
+    let times = best(vec![proved, plain, c]);
     let what = format!("scrub {} full of {body}-byte objects", shape.name());
     let zones = pool.len() - shape.zone_start(0);
     let row = Row::new("scrub", what, bytes(zones), Unit::Rate { bytes: zones }, times[0], times[1]);
@@ -67,8 +66,7 @@ fn repair_row(shape: Shape) -> Row {
         repairs.push(("ISA-L", Box::new(move |pool| columns.iter().for_each(|pages| xor(pool, pages)))));
     }
     let mut copies = vec![lossy; repairs.len()];
-    let mut calls: Vec<_> = repairs.iter().zip(&mut copies).map(|((_, repair), copy)| || repair(copy)).collect();
-    let times = best(&mut calls.iter_mut().map(|call| call as &mut dyn FnMut()).collect::<Vec<_>>());
+    let times = best(repairs.iter().zip(&mut copies).map(|((_, repair), copy)| timed(|| repair(copy))).collect());
     assert!(copies.iter().all(|copy| copy[..] == pool[..]));
     let what = format!("repair {}, one page a column", shape.name());
     let touched = columns.len() * (shape.rows + 1) * PAGE;

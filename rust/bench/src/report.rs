@@ -11,6 +11,7 @@ pub enum Unit {
 }
 
 /// Times in nanoseconds.
+#[derive(Clone)]
 pub struct Row {
     pub group: &'static str,
     pub what: String,
@@ -36,12 +37,18 @@ impl Row {
         self.c.map(|c| c / self.library)
     }
 
-    fn figure(&self, time: f64) -> String {
+    /// A time as this row shows it.
+    pub fn figure(&self, time: f64) -> String {
         match self.unit {
             Unit::Rate { bytes } => format!("{:.0} MB/s", bytes as f64 / time * 1000.0),
             Unit::Time if time < 1000.0 => format!("{time:.1} ns"),
             Unit::Time => format!("{:.2} µs", time / 1000.0),
         }
+    }
+
+    /// The time of what stands in the last column under this name.
+    pub fn other(&self, name: &str) -> Option<f64> {
+        self.other.iter().find(|other| other.0 == name).map(|other| other.1)
     }
 
     fn cells(&self) -> [String; 8] {
@@ -62,17 +69,23 @@ impl Row {
 const TITLES: [&str; 8] = ["what", "size", "library", "plain Rust", "ratio", "C loop", "to C", "other"];
 
 pub fn table(rows: &[Row]) -> String {
-    let titles = TITLES.map(str::to_owned);
-    let lines: Vec<[String; 8]> = std::iter::once(titles).chain(rows.iter().map(Row::cells)).collect();
-    let widths: Vec<usize> = (0..8).map(|i| lines.iter().map(|line| line[i].chars().count()).max().unwrap()).collect();
-    let show = |line: &[String; 8]| {
+    let lines: Vec<Vec<String>> = rows.iter().map(|row| row.cells().into()).collect();
+    markdown(&TITLES, 2, &lines)
+}
+
+/// A table in markdown; the first columns stand to the left, the others to the right.
+pub fn markdown(titles: &[&str], left: usize, rows: &[Vec<String>]) -> String {
+    let titles: Vec<String> = titles.iter().map(|&title| title.to_owned()).collect();
+    let width = |i: usize| rows.iter().chain([&titles]).map(|line| line[i].chars().count()).max().unwrap();
+    let widths: Vec<usize> = (0..titles.len()).map(width).collect();
+    let show = |line: &Vec<String>| {
         let cell = |(i, cell): (usize, &String)| match i {
-            0 | 1 => format!("| {cell:<width$} ", width = widths[i]),
+            _ if i < left => format!("| {cell:<width$} ", width = widths[i]),
             _ => format!("| {cell:>width$} ", width = widths[i]),
         };
         line.iter().enumerate().map(cell).collect::<String>() + "|\n"
     };
-    let end = |i| if i < 2 { "-" } else { ":" };
+    let end = |i| if i < left { "-" } else { ":" };
     let rule: String = widths.iter().enumerate().map(|(i, &width)| format!("|{}{}", "-".repeat(width + 1), end(i))).collect();
-    show(&lines[0]) + &rule + "|\n" + &lines[1..].iter().map(show).collect::<String>()
+    show(&titles) + &rule + "|\n" + &rows.iter().map(show).collect::<String>()
 }

@@ -1,7 +1,7 @@
 //! Rows over calls of the open transaction: allocate, write, free.
 use crate::fixture::{filled, nearly_full, staged, target, Pool, Shape, LARGEST, SMALL};
 use crate::library::{Library, PLAIN, PROVED};
-use crate::measure::best;
+use crate::measure::{best, timed};
 use crate::report::{Row, Unit};
 use reference::{Reply, Transaction, REFUSED};
 use std::hint::black_box;
@@ -87,9 +87,9 @@ fn row(call: Call, shape: Shape, pool: &Pool, count: usize, what: &str, size: St
     let [first, second] = &mut copies;
     let right = call.make(&PLAIN, t, pool, &mut staging.clone());
     assert_ne!(right.kind, REFUSED);
-    let mut proved = || assert_eq!(call.make(&PROVED, t, black_box(pool), first), right);
-    let mut plain = || assert_eq!(call.make(&PLAIN, t, black_box(pool), second), right);
-    let times = best(&mut [&mut proved, &mut plain]);
+    let proved = timed(|| assert_eq!(call.make(&PROVED, t, black_box(pool), first), right));
+    let plain = timed(|| assert_eq!(call.make(&PLAIN, t, black_box(pool), second), right));
+    let times = best(vec![proved, plain]);
     assert_eq!(copies[0], copies[1]);
     Row::new("transaction", what, size, Unit::Time, times[0], times[1])
 }

@@ -37,8 +37,10 @@ pub enum Call {
     Free(usize),
     Commit,
     CommitStep,
+    CommitAdvance,
     Recover,
     RecoverStep,
+    RecoverAdvance,
 }
 
 #[derive(Clone, Copy, Debug, PartialEq, Eq)]
@@ -67,8 +69,10 @@ impl Call {
             Call::Free(_) => "free",
             Call::Commit => "commit",
             Call::CommitStep => "commit_step",
+            Call::CommitAdvance => "commit_advance",
             Call::Recover => "recover",
             Call::RecoverStep => "recover_step",
+            Call::RecoverAdvance => "recover_advance",
         }
     }
 }
@@ -114,8 +118,10 @@ macro_rules! make_call {
                 &Call::Free(address) => Answer::Reply($side::free(t, pool, staging, address)),
                 Call::Commit => Answer::Reply($side::commit(t, pool, staging)),
                 Call::CommitStep => Answer::Reply($side::commit_step(t, pool, staging)),
+                Call::CommitAdvance => Answer::Reply($side::commit_advance(t, pool, staging)),
                 Call::Recover => Answer::RecoveryReply($side::recover(pool)),
                 Call::RecoverStep => Answer::RecoveryReply($side::recover_step(r, pool)),
+                Call::RecoverAdvance => Answer::RecoveryReply($side::recover_advance(r, pool)),
             }
         }
     };

@@ -2,8 +2,8 @@
 //!
 //! Pointers are followed along every way through a function, in registers and in stack slots, so far as to tell three apart: one to the
 //! function's result (in %rdi at its entry), one into its own stack frame, and any other. That the stack frame and the result are what the
-//! compiler says is taken for granted. An instruction that is not known here, a call or jump through a register (but for a table of jumps)
-//! and a jump out of the function end in a panic, so that nothing writes unseen.
+//! compiler says is taken for granted. A jump to another function is a call of it. An instruction that is not known here, and a call or jump
+//! through a register (but for a table of jumps), end in a panic, so that nothing writes unseen.
 use std::collections::{BTreeMap, BTreeSet};
 use std::process::Command;
 
@@ -27,8 +27,8 @@ pub struct Instruction {
 }
 
 /// What a register or a stack slot holds, if it is known to be a pointer.
-#[derive(Clone, Copy, Debug, PartialEq, Eq)]
-enum Pointer {
+#[derive(Clone, Copy, Debug, PartialEq, Eq, PartialOrd, Ord)]
+pub enum Pointer {
     Result,
     Frame,
     Other,
@@ -41,8 +41,8 @@ pub struct Effects {
     pub result: Vec<Instruction>,
     /// All other writes.
     pub others: Vec<Instruction>,
-    /// The functions called, and whether the result of each goes into the frame.
-    pub calls: Vec<(String, bool)>,
+    /// The functions called, and what %rdi holds: if the result goes to memory, where it goes.
+    pub calls: Vec<(String, Pointer)>,
 }
 
 pub fn functions(archive: &str) -> Functions {
@@ -171,6 +171,20 @@ impl Instruction {
         self.is(&["jmp", "ret", "ud2"])
     }
 
+    /// A jump to another function, at the end of this one.
+    fn leaves(&self) -> bool {
+        self.is_jump() && self.symbol.is_some() && !self.last().starts_with('*')
+    }
+
+    /// Whether it writes eight bytes of memory at once, if it writes any: from a general register, from half of an SSE register, or a number.
+    pub fn writes_a_word(&self) -> bool {
+        match self.name.as_str() {
+            "mov" => whole_register(&self.operands[0]).is_some(),
+            "movq" | "movlps" | "movhps" | "movlpd" | "movhpd" => true,
+            _ => false,
+        }
+    }
+
     fn last(&self) -> &str {
         self.operands.last().map_or("", String::as_str)
     }
@@ -182,10 +196,57 @@ impl Instruction {
             "mov", "add", "sub", "adc", "sbb", "and", "or", "xor", "not", "neg", "inc", "dec", "shl", "shr", "sar", "rol", "ror", "imul",
             "lea",
         ];
-        const LAST_ONLY: [&str; 28] = [
-            "movabs", "movslq", "movsbl", "movsbq", "movswl", "movswq", "movzbl", "movzbq", "movzwl", "movzwq", "movd", "movups", "movaps",
-            "movdqu", "movdqa", "movhps", "movlps", "movhpd", "movlpd", "pxor", "por", "pand", "xorps", "orps", "pshufd", "pcmpeqb",
-            "pmovmskb", "tzcnt",
+        const LAST_ONLY: [&str; 50] = [
+            "movabs",
+            "movslq",
+            "movsbl",
+            "movsbq",
+            "movswl",
+            "movswq",
+            "movzbl",
+            "movzbw",
+            "movzbq",
+            "movzwl",
+            "movzwq",
+            "movd",
+            "movups",
+            "movaps",
+            "movupd",
+            "movapd",
+            "movdqu",
+            "movdqa",
+            "movhps",
+            "movlps",
+            "movhpd",
+            "movlpd",
+            "pxor",
+            "por",
+            "pand",
+            "pandn",
+            "xorps",
+            "orps",
+            "andps",
+            "paddd",
+            "paddq",
+            "psubd",
+            "psubq",
+            "psllq",
+            "psrlq",
+            "pslldq",
+            "psrldq",
+            "pshufd",
+            "shufps",
+            "punpcklqdq",
+            "punpckhqdq",
+            "unpcklpd",
+            "unpckhpd",
+            "pcmpeqb",
+            "pcmpeqd",
+            "pmovmskb",
+            "movmskps",
+            "bswap",
+            "tzcnt",
+            "bsf",
         ];
         let stem = self.name.strip_suffix(['b', 'w', 'l', 'q']).unwrap_or("");
         let sized = |names: &[&str]| self.is(names) || names.contains(&stem);
@@ -311,7 +372,9 @@ pub fn effects(functions: &Functions, name: &str) -> Effects {
         };
         if i.is(&["call"]) {
             let symbol = i.symbol.clone().unwrap_or_else(|| panic!("{name} calls through a register: {i:?}"));
-            effects.calls.push((symbol, state.registers[RDI] == Pointer::Frame));
+            effects.calls.push((symbol, state.registers[RDI]));
+        } else if i.leaves() {
+            effects.calls.push((i.symbol.clone().unwrap(), state.registers[RDI]));
         } else if let Some(place) = i.written() {
             match state.lies(place) {
                 Pointer::Frame => (),
@@ -328,7 +391,7 @@ fn states(Function { code, targets }: &Function) -> Vec<Option<State>> {
     let number: BTreeMap<usize, usize> = code.iter().enumerate().map(|(n, i)| (i.at, n)).collect();
     let in_tables: Vec<usize> = targets.iter().map(|target| number[target]).collect();
     let target = |i: &Instruction| -> Option<usize> {
-        assert!(i.symbol.is_none(), "a jump out of the function: {i:?}");
+        assert!(i.symbol.is_none(), "a jump by way of a symbol: {i:?}");
         let at = i.last().split(' ').next().filter(|at| !at.starts_with('*'))?;
         Some(number[&usize::from_str_radix(at, 16).expect("an address")])
     };
@@ -343,7 +406,7 @@ fn states(Function { code, targets }: &Function) -> Vec<Option<State>> {
             continue;
         }
         let (i, next) = (&code[n], met.after(&code[n]));
-        if i.is_jump() {
+        if i.is_jump() && !i.leaves() {
             match target(i) {
                 Some(target) => waiting.push((target, next.clone())),
                 None => {

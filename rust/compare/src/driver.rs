@@ -1,8 +1,29 @@
-//! Commits and recoveries of the library driven step by step, with barriers where it asks for them, until they end or
-//! the power fails.
+//! Commits and recoveries of the library, with barriers where it asks for them, until they end or the power fails. They are driven by the
+//! calls that go on to the next barrier, with single steps beside them: the pool after each step is what a cut inside the call meets, and
+//! at each barrier both ways must have come to the same bytes and the same answer.
 use crate::memory::Memory;
 use crate::staged::Staged;
 use linked::{BARRIER, DONE, STARTED, STORED};
+use std::fmt::Debug;
+
+/// The answer of a call that goes on to the next barrier, and the pool that it leaves: made before the first of the steps that it stands for,
+/// compared after the last.
+struct Advanced<R>(Option<(R, Vec<u8>)>);
+
+impl<R: PartialEq + Debug> Advanced<R> {
+    fn make(&mut self, memory: &Memory, advance: impl FnOnce(&mut [u8]) -> R) {
+        self.0.get_or_insert_with(|| {
+            let mut pool = memory.seen().to_vec();
+            (advance(&mut pool), pool)
+        });
+    }
+
+    fn compare(&mut self, memory: &Memory, stepped: R) {
+        let (advanced, pool) = self.0.take().expect("the call was made");
+        assert_eq!(advanced, stepped, "one call up to the barrier, and single steps");
+        assert!(pool == memory.seen(), "one call up to the barrier leaves other bytes than single steps: {stepped:?}");
+    }
+}
 
 /// Steps of a commit of so many entries, and up to the barrier after the seals.
 pub fn commit_steps(entries: usize) -> usize {
@@ -19,12 +40,17 @@ pub fn commit(memory: &mut Memory, staged: &Staged, mut goes_on: impl FnMut(&Mem
     let start = linked::commit(staged.transaction, memory.seen(), &staged.staging);
     assert_eq!((start.kind, start.value), (STARTED, 0));
     let mut transaction = start.transaction;
+    let mut advanced = Advanced(None);
     let last = commit_steps(staged.transaction.count);
     for number in 1..=last {
         if !goes_on(memory, number - 1) {
             return false;
         }
+        advanced.make(memory, |pool| linked::commit_advance(transaction, pool, &staged.staging));
         let reply = memory.step(|pool| linked::commit_step(transaction, pool, &staged.staging));
+        if reply.kind != STORED {
+            advanced.compare(memory, reply);
+        }
         pass(memory, reply.kind, reply.value, number, last);
         transaction = reply.transaction;
     }
@@ -36,12 +62,17 @@ pub fn recover(memory: &mut Memory, entries: usize, mut goes_on: impl FnMut(&Mem
     let start = linked::recover(memory.seen());
     assert!([STARTED, DONE].contains(&start.kind) && start.value == 0, "{start:?}");
     let mut recovery = start.recovery;
+    let mut advanced = Advanced(None);
     let last = if start.kind == DONE { 0 } else { 2 * entries + 5 };
     for number in 1..=last {
         if !goes_on(memory, number - 1) {
             return false;
         }
+        advanced.make(memory, |pool| linked::recover_advance(recovery, pool));
         let reply = memory.step(|pool| linked::recover_step(recovery, pool));
+        if reply.kind != STORED {
+            advanced.compare(memory, reply);
+        }
         pass(memory, reply.kind, reply.value, number, last);
         recovery = reply.recovery;
     }

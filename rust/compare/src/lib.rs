@@ -9,6 +9,7 @@ pub mod pools;
 pub mod random;
 pub mod requests;
 pub mod staged;
+pub mod trace;
 
 /// How many times the usual number of cases is run: 1, or 20 if the environment says POOL_TESTS=long.
 pub fn times() -> usize {

@@ -196,7 +196,7 @@ pub fn staging_call(random: &mut Random, shape: Shape, given: &Given) -> Call {
 
 /// Any call on this pool.
 pub fn call(random: &mut Random, shape: Shape, given: &Given) -> Call {
-    match random.below(28) {
+    match random.below(32) {
         0 => format(random, shape),
         1 => Call::Mend,
         2 | 3 => Call::Look(address(random, shape, &given.pool)),
@@ -205,8 +205,10 @@ pub fn call(random: &mut Random, shape: Shape, given: &Given) -> Call {
         6 => Call::Begin,
         7 | 8 => Call::Commit,
         9 | 10 => Call::CommitStep,
-        11 => Call::Recover,
-        12 | 13 => Call::RecoverStep,
+        11 | 12 => Call::CommitAdvance,
+        13 => Call::Recover,
+        14 | 15 => Call::RecoverStep,
+        16 | 17 => Call::RecoverAdvance,
         _ => staging_call(random, shape, given),
     }
 }

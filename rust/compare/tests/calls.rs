@@ -1,13 +1,14 @@
 //! The library against the reference: every answer, and every byte of pool, staging memory and record, over random
 //! pools and requests.
 use compare::calls::{compare, Call, Given};
-use compare::layout::{Shape, LARGEST};
+use compare::layout::{Shape, LARGEST, LOGS};
 use compare::random::Random;
 use compare::{pools, requests, times};
+use linked::Recovery;
 use std::collections::{BTreeMap, BTreeSet};
 
 /// What each call can answer. `2` stands twice: "2 short" under 512 bytes, "2 length" after the headers.
-const ANSWERS: [(&str, &str); 12] = [
+const ANSWERS: [(&str, &str); 14] = [
     ("format", "0, 1, 2 short, 2 length"),
     ("mend", "0, 2 short, 3, 4, 2 length"),
     ("look", "0, 2 short, 3, 4, 2 length, 21, 5, 23, 24, 25"),
@@ -18,9 +19,15 @@ const ANSWERS: [(&str, &str); 12] = [
     ("free", "taken, 2 short, 3, 4, 2 length, 9, 10, 29, 21, 5, 23, 24, 25, 27"),
     ("commit", "started, done, 2 short, 3, 4, 2 length, 9, 10, 29, 21"),
     ("commit_step", "stored, barrier, done, 2 short, 3, 4, 2 length, 9, 10, 29, 21"),
+    ("commit_advance", "barrier, done, 2 short, 3, 4, 2 length, 9, 10, 29, 21"),
     ("recover", "started, done, 2 short, 3, 4, 2 length, 22"),
     ("recover_step", "stored, barrier, done, 2 short, 3, 4, 2 length, 10, 29"),
+    ("recover_advance", "barrier, done, 2 short, 3, 4, 2 length, 10, 29"),
 ];
+
+/// One step, and all up to the next barrier.
+const COMMIT: [Call; 2] = [Call::CommitStep, Call::CommitAdvance];
+const RECOVER: [Call; 2] = [Call::RecoverStep, Call::RecoverAdvance];
 
 const KINDS: [&str; 7] = ["refused", "address", "taken", "started", "stored", "barrier", "done"];
 
@@ -50,9 +57,16 @@ impl Comparison {
         goes_on
     }
 
-    /// Makes steps until they end, or, once in so many times, stops before.
-    fn make_steps(&mut self, step: Call, given: &mut Given, stop: usize) {
-        while self.make(&step, given) && !self.random.once_in(stop) {}
+    /// Makes steps until they end, or, once in so many times, stops before: single ones, all up to a barrier at a time, or now these and now
+    /// those.
+    fn make_steps(&mut self, [step, advance]: [Call; 2], given: &mut Given, stop: usize) {
+        let advances = self.random.pick(&[usize::MAX, 1, 20]);
+        loop {
+            let call = if self.random.once_in(advances) { &advance } else { &step };
+            if !self.make(call, given) || self.random.once_in(stop) {
+                break;
+            }
+        }
     }
 
     /// Some calls on one pool, each given what the one before left; commits and recoveries that start are stepped on.
@@ -61,9 +75,10 @@ impl Comparison {
             let call = requests::call(&mut self.random, shape, given);
             let started = self.make(&call, given);
             match call {
-                Call::Commit if started => self.make_steps(Call::CommitStep, given, 500),
-                Call::Recover if started => self.make_steps(Call::RecoverStep, given, 200),
-                Call::CommitStep | Call::RecoverStep if started => self.make_steps(call, given, 4),
+                Call::Commit if started => self.make_steps(COMMIT, given, 500),
+                Call::Recover if started => self.make_steps(RECOVER, given, 200),
+                Call::CommitStep | Call::CommitAdvance if started => self.make_steps(COMMIT, given, 4),
+                Call::RecoverStep | Call::RecoverAdvance if started => self.make_steps(RECOVER, given, 4),
                 _ => (),
             }
             self.disturb(shape, given);
@@ -81,11 +96,65 @@ impl Comparison {
             self.make(&call, &mut given);
         }
         if self.make(&Call::Commit, &mut given) {
-            self.make_steps(Call::CommitStep, &mut given, usize::MAX);
+            self.make_steps(COMMIT, &mut given, usize::MAX);
         }
         self.make(&Call::Scrub, &mut given);
         for address in 0..shape.zones * shape.cells().min(16) {
             self.make(&Call::Look(address), &mut given);
+        }
+    }
+
+    /// A commit of so many entries, then recoveries of what it leaves: from log A; from B, since an entry of A is spoilt; and of a pool with
+    /// one seal and no valid log.
+    fn advance_from_every_place(&mut self, shape: Shape, count: usize) {
+        let random = &mut self.random;
+        let pool = pools::filled(random, shape);
+        let targets = pools::targets(random, shape, count);
+        let mut staging = pools::entries(random, &pool, &targets, false);
+        staging.resize(2032, 0xA7);
+        let mut given = Given::new(pool, staging, Recovery { work: 0, phase: 0 });
+        given.transaction.count = targets.len();
+        assert!(self.make(&Call::Commit, &mut given));
+        let mut sealed = given.clone();
+        self.make_steps_and_advances(shape, COMMIT, &mut given);
+        for _ in 0..2 {
+            self.make(&Call::CommitAdvance, &mut sealed);
+        }
+        let mut only_b = sealed.clone();
+        only_b.pool[LOGS[0] + 16] ^= 1;
+        let mut no_log = only_b.clone();
+        no_log.pool[LOGS[1]..][..8].fill(0);
+        for mut given in [sealed, only_b, no_log] {
+            assert!(self.make(&Call::Recover, &mut given));
+            self.make_steps_and_advances(shape, RECOVER, &mut given);
+        }
+    }
+
+    /// Single steps to the end. Before each of them all steps up to the next barrier are made on copies: one as it is, one disturbed before.
+    fn make_steps_and_advances(&mut self, shape: Shape, [step, advance]: [Call; 2], given: &mut Given) {
+        loop {
+            let (mut copy, mut disturbed) = (given.clone(), given.clone());
+            self.make(&advance, &mut copy);
+            self.scribble(shape, &mut disturbed);
+            self.make(&advance, &mut disturbed);
+            if !self.make(&step, given) {
+                break;
+            }
+        }
+    }
+
+    /// Bytes changed between two calls: damage to the pool, an entry's target or word, in staging memory or in a log; or a record from
+    /// elsewhere.
+    fn scribble(&mut self, shape: Shape, given: &mut Given) {
+        let random = &mut self.random;
+        let byte = 1 << random.below(8);
+        let in_entries = random.below(given.transaction.count.max(1) * 16);
+        match random.below(6) {
+            0 | 1 => pools::damage(random, shape, &mut given.pool),
+            2 => given.staging[in_entries] ^= byte,
+            3 => given.pool[random.pick(&LOGS) + 16 + in_entries] ^= byte,
+            4 => (given.staging, given.transaction) = requests::staged(random, shape, &given.pool),
+            _ => given.recovery = requests::recovery(random, &given.pool),
         }
     }
 
@@ -108,7 +177,7 @@ impl Comparison {
         for (call, _) in ANSWERS {
             let of_call = self.counts.iter().filter(|((name, _), _)| *name == call);
             let counts: Vec<String> = of_call.map(|((_, answer), count)| format!("[{answer}] {count}")).collect();
-            println!("{call:12} {}", counts.join("  "));
+            println!("{call:15} {}", counts.join("  "));
         }
         println!("{} calls compared", self.counts.values().sum::<usize>());
     }
@@ -125,7 +194,7 @@ impl Comparison {
 #[test]
 fn calls_on_random_pools() {
     let mut comparison = Comparison::new(1);
-    for _ in 0..40_000 * times() {
+    for _ in 0..100_000 * times() {
         let shape = pools::shape(&mut comparison.random);
         let mut given = requests::given(&mut comparison.random, shape);
         let calls = comparison.random.from_to(1, 12);
@@ -138,10 +207,23 @@ fn calls_on_random_pools() {
 #[test]
 fn transactions_on_sound_pools() {
     let mut comparison = Comparison::new(4);
-    for _ in 0..4_000 * times() {
+    for _ in 0..10_000 * times() {
         let shape = pools::shape(&mut comparison.random);
         comparison.make_transaction(shape);
     }
+    comparison.print();
+}
+
+/// All steps up to the next barrier, from every place of a commit and of a recovery from either log, or one that clears the seals only.
+#[test]
+fn advances_from_every_place() {
+    let mut comparison = Comparison::new(6);
+    for count in [1, 2, 3, 10, 26, 60, 127] {
+        for shape in [(2, 2, 1), (1, 2, 3), (15, 1, 1)].map(|(rows, cols, zones)| Shape { rows, cols, zones }) {
+            comparison.advance_from_every_place(shape, count);
+        }
+    }
+    comparison.advance_from_every_place(LARGEST, 2);
     comparison.print();
 }
 
@@ -159,7 +241,7 @@ fn calls_on_the_largest_pools() {
 #[test]
 fn check_of_random_bytes() {
     let mut comparison = Comparison::new(3);
-    let mut given = Given::new(Vec::new(), Vec::new(), linked::Recovery { work: 0, phase: 0 });
+    let mut given = Given::new(Vec::new(), Vec::new(), Recovery { work: 0, phase: 0 });
     for length in (0..600).chain([5551, 5552, 5553, 65520, 65521, 65522, 1 << 20]) {
         let bytes = comparison.random.bytes(length);
         comparison.make(&Call::Check(bytes), &mut given);

@@ -47,6 +47,14 @@ extern "C" {
         staging: *const u8,
         staging_length: usize,
     ) -> Reply;
+    pub fn pool_commit_advance(
+        transaction: Transaction,
+        pool: *mut u8,
+        pool_length: usize,
+        staging: *const u8,
+        staging_length: usize,
+    ) -> Reply;
     pub fn pool_recover(pool: *const u8, pool_length: usize) -> RecoveryReply;
     pub fn pool_recover_step(recovery: Recovery, pool: *mut u8, pool_length: usize) -> RecoveryReply;
+    pub fn pool_recover_advance(recovery: Recovery, pool: *mut u8, pool_length: usize) -> RecoveryReply;
 }

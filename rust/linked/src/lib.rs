@@ -63,10 +63,18 @@ pub fn commit_step(t: Transaction, pool: &mut [u8], staging: &[u8]) -> Reply {
     unsafe { pool_commit_step(t, pool.as_mut_ptr(), pool.len(), staging.as_ptr(), staging.len()) }
 }
 
+pub fn commit_advance(t: Transaction, pool: &mut [u8], staging: &[u8]) -> Reply {
+    unsafe { pool_commit_advance(t, pool.as_mut_ptr(), pool.len(), staging.as_ptr(), staging.len()) }
+}
+
 pub fn recover(pool: &[u8]) -> RecoveryReply {
     unsafe { pool_recover(pool.as_ptr(), pool.len()) }
 }
 
 pub fn recover_step(r: Recovery, pool: &mut [u8]) -> RecoveryReply {
     unsafe { pool_recover_step(r, pool.as_mut_ptr(), pool.len()) }
+}
+
+pub fn recover_advance(r: Recovery, pool: &mut [u8]) -> RecoveryReply {
+    unsafe { pool_recover_advance(r, pool.as_mut_ptr(), pool.len()) }
 }

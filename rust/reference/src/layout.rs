@@ -82,5 +82,6 @@ pub fn word(bytes: &[u8], offset: usize) -> u64 {
 }
 
 pub fn put_word(bytes: &mut [u8], offset: usize, word: u64) {
+    debug_assert!(offset.is_multiple_of(WORD), "a store is aligned");
     bytes[offset..offset + WORD].copy_from_slice(&word.to_le_bytes());
 }

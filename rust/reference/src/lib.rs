@@ -3,6 +3,7 @@
 
 #![forbid(unsafe_code)]
 
+mod advance;
 mod checksum;
 mod header;
 mod layout;
@@ -15,6 +16,7 @@ mod steps;
 mod transaction;
 mod writeset;
 
+pub use advance::{commit_advance, recover_advance};
 pub use checksum::check;
 pub use header::mend;
 pub use pages::{format, repair, scrub};

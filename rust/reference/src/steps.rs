@@ -47,7 +47,6 @@ fn clear_at(place: usize) -> Step {
 /// Makes the step. Its kind; "done" is said only after the last.
 fn make(pool: &mut [u8], step: Step, last: bool) -> usize {
     if let Some((offset, word)) = step {
-        debug_assert!(offset.is_multiple_of(WORD), "a store is aligned");
         put_word(pool, offset, word);
     }
     match step {
@@ -58,25 +57,26 @@ fn make(pool: &mut [u8], step: Step, last: bool) -> usize {
 }
 
 pub fn commit_step(t: Transaction, pool: &mut [u8], staging: &[u8]) -> Reply {
-    let (place, step) = match next_of_commit(t, pool, staging) {
+    let (shape, place) = match next_of_commit(t, pool, staging) {
         Ok(next) => next,
         Err(refusal) => return t.reply(REFUSED, refusal),
     };
+    let step = commit_at(place, shape, pool, &staging[..t.count * ENTRY]);
     let last = place + 1 == t.steps();
     let kind = make(pool, step, last);
     let phase = if last { Transaction::CLOSED } else { t.phase + 1 };
     Transaction { phase, ..t }.reply(kind, place + 1)
 }
 
-/// 2, 3, 4, 2, 9, 10, 29, and 21 at the first step only.
-fn next_of_commit(t: Transaction, pool: &[u8], staging: &[u8]) -> Result<(usize, Step), usize> {
+/// The pool's shape and the next step's place: 2, 3, 4, 2, 9, 10, 29, and 21 at the first step only.
+pub fn next_of_commit(t: Transaction, pool: &[u8], staging: &[u8]) -> Result<(Shape, usize), usize> {
     let shape = open(pool)?;
     judge(t, shape, staging)?;
     let place = t.phase.checked_sub(Transaction::COMMITTING).ok_or(STATE)?;
     if place == 0 {
         unsealed(pool)?;
     }
-    Ok((place, commit_at(place, shape, pool, &staging[..t.count * ENTRY])))
+    Ok((shape, place))
 }
 
 /// Recovery replays A if valid, else B if valid. If neither is valid and a seal is zero, it clears both.
@@ -108,9 +108,13 @@ fn work_of(pool: &[u8], shape: Shape) -> usize {
 }
 
 pub fn recover_step(r: Recovery, pool: &mut [u8]) -> RecoveryReply {
-    let (place, step) = match next_of_recovery(r, pool) {
+    let (shape, place) = match next_of_recovery(r, pool) {
         Ok(next) => next,
         Err(refusal) => return r.reply(REFUSED, refusal),
+    };
+    let step = match replayed(r.work) {
+        Some((log, n)) => replay_at(place, shape, pool, entries(pool, log, n)),
+        None => clear_at(place),
     };
     let last = place + 1 == recovery_steps(r.work);
     let kind = make(pool, step, last);
@@ -119,13 +123,13 @@ pub fn recover_step(r: Recovery, pool: &mut [u8]) -> RecoveryReply {
 }
 
 /// The log that this work replays, and its count.
-fn replayed(work: usize) -> Option<(usize, usize)> {
+pub fn replayed(work: usize) -> Option<(usize, usize)> {
     let code = work.checked_sub(Recovery::REPLAY)?;
     Some((if code % 2 == 0 { LOG_A } else { LOG_B }, code / 2))
 }
 
 /// Parts 3 to 5 have 2n + 5 steps, part 5 alone has 3.
-fn recovery_steps(work: usize) -> usize {
+pub fn recovery_steps(work: usize) -> usize {
     match (work, replayed(work)) {
         (_, Some((_, n))) => 2 * n + 5,
         (Recovery::CLEAR, _) => 3,
@@ -133,8 +137,8 @@ fn recovery_steps(work: usize) -> usize {
     }
 }
 
-/// 2, 3, 4, 2, 10, 29. The log is judged in parts 3 and 4, with their barriers.
-fn next_of_recovery(r: Recovery, pool: &[u8]) -> Result<(usize, Step), usize> {
+/// The pool's shape and the next step's place: 2, 3, 4, 2, 10, 29. The log is judged in parts 3 and 4, with their barriers.
+pub fn next_of_recovery(r: Recovery, pool: &[u8]) -> Result<(Shape, usize), usize> {
     let shape = open(pool)?;
     let log = replayed(r.work);
     let place = r.phase.checked_sub(Recovery::RECOVERING);
@@ -143,11 +147,8 @@ fn next_of_recovery(r: Recovery, pool: &[u8]) -> Result<(usize, Step), usize> {
         return Err(IMPOSSIBLE);
     }
     let place = place.ok_or(STATE)?;
-    let Some((log, n)) = log else {
-        return Ok((place, clear_at(place)));
-    };
-    if place <= 2 * n + 1 && valid(pool, shape, log) != Some(n) {
+    if log.is_some_and(|(log, n)| place <= 2 * n + 1 && valid(pool, shape, log) != Some(n)) {
         return Err(IMPOSSIBLE);
     }
-    Ok((place, replay_at(place, shape, pool, entries(pool, log, n))))
+    Ok((shape, place))
 }

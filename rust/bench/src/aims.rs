@@ -1,0 +1,104 @@
+//! The aims, and whether each is met.
+use crate::chosen::{Beside, RECOVERY, SAVE_AND_FREE, WITH_BARRIERS};
+use crate::report::{markdown, Row};
+use crate::runs::{find, two_digits, Runs, Spread};
+
+/// Speed over plain Rust before there were calls that go on to the next barrier; plain Rust's check, scrub and repair are the same since. On an
+/// AMD EPYC, the mean of two runs.
+const BEFORE: [(&str, &str, f64); 8] = [
+    ("check", "496 bytes", 1.04),
+    ("check", "64 KiB", 1.06),
+    ("scrub (2,2,1) full of 120-byte objects", "1.5 KiB", 1.01),
+    ("scrub (2,2,1) full of 496-byte objects", "1.5 KiB", 0.98),
+    ("scrub (15,64,16) full of 120-byte objects", "4096 KiB", 0.99),
+    ("scrub (15,64,16) full of 496-byte objects", "4096 KiB", 0.99),
+    ("repair (2,2,1), one page a column", "1.5 KiB", 0.83),
+    ("repair (15,64,16), one page a column", "4096 KiB", 1.11),
+];
+
+/// So much less than before is within what one run differs from the other.
+const TOLERANCE: f64 = 0.95;
+
+/// A call of a transaction is to have at least so much of the speed of plain Rust.
+const OF_PLAIN_RUST: f64 = 0.8;
+
+/// An aim, what was measured, and whether it is met.
+type Line = [String; 3];
+
+pub fn table(runs: &Runs) -> String {
+    let rows = runs.medians();
+    let aims = [
+        at_most_pmemobj(runs, "save and free of 120 bytes by advance: at most 1.5 times libpmemobj's time", SAVE_AND_FREE, 1.5),
+        at_most_pmemobj(runs, "the same: at most libpmemobj's time", SAVE_AND_FREE, 1.0),
+        at_most_pmemobj(runs, "the same with barriers passed, as libpmemobj's are: at most 1.5 times its time", WITH_BARRIERS, 1.5),
+        faster_than_steps(runs, "save and free of 120 bytes: at least 6 times faster by advance than by steps", SAVE_AND_FREE, 6.0),
+        faster_than_steps(runs, "recovery of 127 entries: at least 20 times faster by advance than by steps", RECOVERY, 20.0),
+        not_slower(&rows),
+        calls(&rows),
+        linear(&rows, "ascending"),
+        linear(&rows, "not ascending"),
+    ];
+    markdown(&["aim", "measured", "met"], 3, &aims.into_iter().map(Vec::from).collect::<Vec<_>>())
+}
+
+fn line(aim: &str, measured: String, met: String) -> Line {
+    [aim.to_owned(), measured, met]
+}
+
+fn ratio(runs: &Runs, (what, size): (&str, &str), of: impl Fn(&Row) -> Option<f64>) -> Option<Spread> {
+    let there = runs.0[0].iter().any(|row| row.what == what);
+    if there {
+        runs.spread(what, size, of)
+    } else {
+        None
+    }
+}
+
+fn shown(spread: Spread) -> String {
+    format!("{} times ({})", two_digits(spread.median), spread.range())
+}
+
+/// The library's time over libpmemobj's.
+fn at_most_pmemobj(runs: &Runs, aim: &str, row: (&str, &str), most: f64) -> Line {
+    let times = |row: &Row| Beside::Other("libpmemobj").time(row).map(|time| row.library / time);
+    match ratio(runs, row, times) {
+        Some(spread) if spread.median <= most => line(aim, shown(spread), "yes".to_owned()),
+        Some(spread) => line(aim, shown(spread), format!("no: {} times too long", two_digits(spread.median / most))),
+        None => line(aim, "libpmemobj or clwb is not there".to_owned(), "not known".to_owned()),
+    }
+}
+
+fn faster_than_steps(runs: &Runs, aim: &str, row: (&str, &str), least: f64) -> Line {
+    let spread = ratio(runs, row, |row| row.other("by steps").map(|time| time / row.library)).expect("measured beside single steps");
+    let met = if spread.median >= least { "yes".to_owned() } else { format!("no: {} of it", two_digits(spread.median / least)) };
+    line(aim, shown(spread), met)
+}
+
+/// Check, scrub and repair beside plain Rust, now and before.
+fn not_slower(rows: &[Row]) -> Line {
+    let now = BEFORE.map(|(what, size, before)| (what, size, find(rows, what, size).ratio() / before));
+    let (what, size, least) = now.into_iter().min_by(|a, b| a.2.total_cmp(&b.2)).unwrap();
+    let slower = now.iter().filter(|(_, _, of_before)| *of_before < TOLERANCE).count();
+    let met = if slower == 0 { "yes".to_owned() } else { format!("no, in {slower} of {} rows", BEFORE.len()) };
+    let aim = "check, scrub and repair not slower than before, measured by plain Rust: at least 0.95 of the ratio then";
+    line(aim, format!("at least {} ({what}, {size})", two_digits(least)), met)
+}
+
+/// Allocate, write and free beside plain Rust.
+fn calls(rows: &[Row]) -> Line {
+    let calls: Vec<&Row> = rows.iter().filter(|row| ["transaction", "growth"].contains(&row.group)).collect();
+    let least = calls.iter().min_by(|a, b| a.ratio().total_cmp(&b.ratio())).unwrap();
+    let below = calls.iter().filter(|row| row.ratio() < OF_PLAIN_RUST).count();
+    let met = if below == 0 { "yes".to_owned() } else { format!("no, in {below} of {} rows", calls.len()) };
+    let measured = format!("at least {} ({}, {})", two_digits(least.ratio()), least.what, least.size);
+    line("allocate, write and free: at 0.8 of plain Rust or better in every row", measured, met)
+}
+
+/// What an entry adds to a whole commit, from 60 to 127 over from 10 to 60.
+fn linear(rows: &[Row], order: &str) -> Line {
+    let time = |count: usize| find(rows, &format!("commit by advance, (15,64,16), {order}"), &format!("n = {count}")).library;
+    let (early, late) = ((time(60) - time(10)) / 50.0, (time(127) - time(60)) / 67.0);
+    let met = if late <= 1.25 * early { "yes".to_owned() } else { format!("no: {} times as much", two_digits(late / early)) };
+    let aim = format!("a commit's cost grows linearly in its entries, {order}: an entry adds as much from 60 to 127 as from 10 to 60");
+    line(&aim, format!("{early:.1} ns, then {late:.1} ns"), met)
+}

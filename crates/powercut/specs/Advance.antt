@@ -6,7 +6,6 @@ use mathlib.Core.List.{List, [], _∷_, Sublistᴰ}
 use Prim.Native.Nat.{ℕ, suc, _+_, _-_, _*_, _≤_, _<_}
 use lib.Dec.{leb}
 use lib.ListN.{length, take, drop}
-use Rattle.rules.specs.Shape.{Shape}
 use Rattle.rules.specs.Header.{shapeIn}
 use Rattle.rules.specs.Staging.{Store, Transaction, committing}
 use Rattle.rules.specs.Answer.{After, Answer, Given, address, done, passed, refused, started, stored, taken}

@@ -95,7 +95,7 @@ passed = record { base = lay pool (logStores sh 0 (entries pool staging ks)); pe
 
 pub run-on : RunOn pool staging ks (holding (txn (committing 9))) passed
 unfolding opened
-run-on = RunOn.on (RunOn.commit RunOn.begin refl) refl
+run-on = RunOn.on (RunOn.next RunOn.begin (commit refl)) refl
 
 -- The power can be cut inside it, as after its first step, and after its last.
 pub moments : Moment pool staging ks (holding (txn (committing 0))) (state []) (state (stored ∷ [])) × Moment pool staging ks (holding (txn (committing 0))) (state []) passed
@@ -104,7 +104,7 @@ moments = (Moment.commits {t = txn (committing 0)} {s = state []} {j = 1} refl (
 
 pub run-cut-inside : RunOn pool staging ks cutOff (state [])
 unfolding opened
-run-cut-inside = RunOn.cut-inside {kept = []} (RunOn.commit RunOn.begin refl) (moments .0) (Sublistᴰ·cons Sublistᴰ·slnil)
+run-cut-inside = RunOn.cut-inside {kept = []} (RunOn.next RunOn.begin (commit refl)) (moments .0) (Sublistᴰ·cons Sublistᴰ·slnil)
 
 -- A refused step is none of the run.
 pub refused-not-accepted : (n : ℕ) → Accepted (refused n) → true ≡ false

@@ -309,9 +309,8 @@ module _ (inp : Input) where
 
   runs : {h : Holds} {s : State} → RunOn pool staging ks h s → Runs h s
   runs RunOn.begin = Run.begin
-  runs (RunOn.commit r f) = Run.next (runs r) (Makes.commit f)
+  runs (RunOn.next r m) = Run.next (runs r) m
   runs (RunOn.on {t} {s} r f) = accepted-on t s (runs r) f .run
-  runs (RunOn.recover r f) = Run.next (runs r) (Makes.recover f)
   runs (RunOn.again {r} {s} u f) = accepted-again r s (runs u) f .run
   runs (RunOn.cut r i) = Run.cut (runs r) i
   runs (RunOn.cut-again r i) = Run.cut-again (runs r) i

@@ -14,9 +14,9 @@ use Rattle.rules.specs.Calls.{AllTyped}
 use Rattle.rules.specs.Sound.{Sound}
 use Rattle.powercut.specs.Steps.{Remedy, Step, barrier, clear, neither, nothing, replay, stepsMade}
 use Rattle.powercut.specs.Power.{State, act, keep, view}
-use Rattle.powercut.specs.Commit.{commitList, commitOn, commitStart, commitStep, nextPhase, placeIn, stepAnswer}
-use Rattle.powercut.specs.Recovery.{Recovery, RecoveryAfter, doneSteps, nextProgress, recovering, recoveryList, recoveryOn, recoveryStart, recoveryStep}
-use Rattle.powercut.specs.WholeRun.{Accepted, Holds, Run, atFirst, cutOff, entries, holding, made, meets, resuming}
+use Rattle.powercut.specs.Commit.{commitList, commitOn, commitStep, nextPhase, placeIn, stepAnswer}
+use Rattle.powercut.specs.Recovery.{Recovery, RecoveryAfter, doneSteps, nextProgress, recovering, recoveryList, recoveryOn, recoveryStep}
+use Rattle.powercut.specs.WholeRun.{Accepted, Holds, Makes, Run, atFirst, cutOff, entries, holding, made, meets, resuming}
 
 -- Steps i + 1 to j of a list.
 unfoldable pub between : ℕ → ℕ → List Step → List Step
@@ -106,13 +106,13 @@ module _ (pool staging : List ℕ) (ks : List Call) where
     commits : {t : Transaction} {s : State} {j : ℕ} → Accepted (commitOn (given s t) .answer) → j ≤ numberIn (commitOn (given s t) .answer) → Moment (holding t) s (inCommit t s j)
     recovers : {r : Recovery} {s : State} {j : ℕ} → Accepted (recoveryOn (view s) r .answer) → j ≤ numberIn (recoveryOn (view s) r .answer) → Moment (resuming r) s (inRecovery r s j)
 
-  -- A run by these calls: as `Run`, with all steps up to the number answered for one step; and a cut can come inside a call.
+  -- A run by these calls, by starts and, between them, single steps (`Makes`): such a call makes all steps up to the number answered; and a
+  -- cut can come inside it.
   pub data RunOn : Holds → State → Type 0 where
     begin : RunOn (holding (made pool staging ks .left .txn)) (atFirst pool staging ks)
-    commit : {t : Transaction} {s : State} → RunOn (holding t) s → Accepted (commitStart (given s t) .answer) → RunOn (holding (commitStart (given s t) .left .txn)) s
+    next : {h h′ : Holds} {s s′ : State} → RunOn h s → Makes pool staging ks h s h′ s′ → RunOn h′ s′
     on : {t : Transaction} {s : State} → RunOn (holding t) s → Accepted (commitOn (given s t) .answer)
         → RunOn (holding (commitOn (given s t) .left .txn)) (inCommit t s (numberIn (commitOn (given s t) .answer)))
-    recover : {s : State} → RunOn cutOff s → Accepted (recoveryStart (view s) .answer) → RunOn (resuming (recoveryStart (view s) .recovery)) s
     again : {r : Recovery} {s : State} → RunOn (resuming r) s → Accepted (recoveryOn (view s) r .answer)
         → RunOn (resuming (recoveryOn (view s) r .recovery)) (inRecovery r s (numberIn (recoveryOn (view s) r .answer)))
     cut : {t : Transaction} {s : State} {kept : List Store} → RunOn (holding t) s → Sublistᴰ kept (s .pend) → RunOn cutOff (keep (shapeIn pool) (entries pool staging ks) s kept)

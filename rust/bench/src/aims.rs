@@ -4,16 +4,16 @@ use crate::report::{markdown, Row};
 use crate::runs::{find, two_digits, Runs, Spread};
 
 /// Speed over plain Rust before there were calls that go on to the next barrier; plain Rust's check, scrub and repair are the same since. On an
-/// AMD EPYC, the mean of two runs.
+/// AMD EPYC, the median of seven runs.
 const BEFORE: [(&str, &str, f64); 8] = [
-    ("check", "496 bytes", 1.04),
-    ("check", "64 KiB", 1.06),
-    ("scrub (2,2,1) full of 120-byte objects", "1.5 KiB", 1.01),
-    ("scrub (2,2,1) full of 496-byte objects", "1.5 KiB", 0.98),
-    ("scrub (15,64,16) full of 120-byte objects", "4096 KiB", 0.99),
-    ("scrub (15,64,16) full of 496-byte objects", "4096 KiB", 0.99),
-    ("repair (2,2,1), one page a column", "1.5 KiB", 0.83),
-    ("repair (15,64,16), one page a column", "4096 KiB", 1.11),
+    ("check", "496 bytes", 0.99),
+    ("check", "64 KiB", 1.04),
+    ("scrub (2,2,1) full of 120-byte objects", "1.5 KiB", 1.02),
+    ("scrub (2,2,1) full of 496-byte objects", "1.5 KiB", 1.00),
+    ("scrub (15,64,16) full of 120-byte objects", "4096 KiB", 1.03),
+    ("scrub (15,64,16) full of 496-byte objects", "4096 KiB", 1.00),
+    ("repair (2,2,1), one page a column", "1.5 KiB", 0.85),
+    ("repair (15,64,16), one page a column", "4096 KiB", 1.17),
 ];
 
 /// So much less than before is within what one run differs from the other.

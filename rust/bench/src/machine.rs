@@ -15,7 +15,7 @@ pub fn heading(runs: usize) -> String {
             ROUND.as_millis()
         ),
         "and the rounds of what stands in one row alternate.".to_owned(),
-        "Caches are warm; nothing was cleared. Ratio: the library's speed over the other's; above 1 the library is faster.".to_owned(),
+        "Caches are warm; nothing was cleared.".to_owned(),
     ];
     lines.extend(missing.iter().map(|name| format!("Left out, since it is not installed: {name}.")));
     if !barrier::is_there() {

@@ -1,5 +1,5 @@
 //! Measures the proved library beside plain Rust, C loops and other libraries, as often as `--runs N` says. Prints the ten rows that matter,
-//! the aims and one long table, and draws docs/benchmark.svg; `--page FILE` writes all of it into that page, each part between its marks.
+//! the aims and one long table; `--page FILE` writes all of it into that page, each part between its marks, and draws benchmark.svg beside it.
 mod aims;
 mod barrier;
 mod chart;
@@ -21,34 +21,35 @@ use report::Row;
 use runs::Runs;
 use std::env;
 use std::os::unix::process::CommandExt;
-use std::path::Path;
+use std::path::{Path, PathBuf};
 use std::process::Command;
 
 const USAGE: &str = "usage: bench [--runs N] [--page FILE]";
 
 fn main() -> Result<(), String> {
     let (count, page) = options(env::args().skip(1))?;
+    if let Some(page) = &page {
+        filled(page, "", "")?; // its marks are there
+    }
     flush_by_instructions()?;
     let runs = Runs((1..=count).map(run).collect());
     let rows = runs.medians();
-    let first = format!("{}\n{}\n{}", machine::heading(count), chosen::table(&runs), aims::table(&runs));
+    let first = format!("{}\n{}\n{}", chosen::table(&runs), aims::table(&runs), machine::heading(count));
     let rest = format!("{}\n{}", report::table(&rows), growth::words(&rows));
     print!("{first}\n{rest}");
-    write(&Path::new(env!("CARGO_MANIFEST_DIR")).join("../../docs/benchmark.svg"), &chart::svg(&rows))?;
     let Some(page) = page else { return Ok(()) };
-    let text = std::fs::read_to_string(&page).map_err(|e| format!("{page}: {e}"))?;
-    let text = between(&between(&text, "ten rows", &first)?, "all rows", &rest)?;
-    write(Path::new(&page), &text)
+    write(&page, &filled(&page, &first, &rest)?)?;
+    write(&page.with_file_name("benchmark.svg"), &chart::svg(&rows))
 }
 
 /// The number of runs, and the page to write into.
-fn options(mut arguments: impl Iterator<Item = String>) -> Result<(usize, Option<String>), String> {
+fn options(mut arguments: impl Iterator<Item = String>) -> Result<(usize, Option<PathBuf>), String> {
     let (mut runs, mut page) = (1, None);
     while let Some(option) = arguments.next() {
         let value = arguments.next().ok_or(USAGE)?;
         match option.as_str() {
             "--runs" => runs = value.parse().ok().filter(|&runs| runs > 0).ok_or(USAGE)?,
-            "--page" => page = Some(value),
+            "--page" => page = Some(value.into()),
             _ => return Err(USAGE.to_owned()),
         }
     }
@@ -70,6 +71,12 @@ fn run(number: usize) -> Vec<Row> {
     let groups =
         [pages::check, pages::scrub, pages::repair, staging::calls, staging::growth, commit::commits, saves::saves, commit::recoveries];
     groups.into_iter().flat_map(|group| group()).collect()
+}
+
+/// The page with these two parts in their places.
+fn filled(page: &Path, first: &str, rest: &str) -> Result<String, String> {
+    let text = std::fs::read_to_string(page).map_err(|e| format!("{}: {e}", page.display()))?;
+    between(&between(&text, "ten rows", first)?, "all rows", rest)
 }
 
 /// The page with this text in place of what stands between the two marks of this name.

@@ -157,6 +157,12 @@ fn number(text: &str) -> Option<i64> {
     u64::from_str_radix(text.strip_prefix("0x")?, 16).ok().map(|n| sign * n as i64)
 }
 
+/// Instructions that change their last operand alone, and have no form by the operand's size.
+const LAST_ONLY: &str =
+    "movabs movslq movsbl movsbq movswl movswq movzbl movzbw movzbq movzwl movzwq movd movups movaps movupd movapd movdqu movdqa movhps \
+    movlps movhpd movlpd pxor por pand pandn xorps orps andps paddd paddq psubd psubq psllq psrlq pslldq psrldq pshufd shufps \
+    punpcklqdq punpckhqdq unpcklpd unpckhpd pcmpeqb pcmpeqd pmovmskb movmskps bswap tzcnt bsf";
+
 impl Instruction {
     fn is(&self, names: &[&str]) -> bool {
         names.contains(&self.name.as_str())
@@ -196,58 +202,6 @@ impl Instruction {
             "mov", "add", "sub", "adc", "sbb", "and", "or", "xor", "not", "neg", "inc", "dec", "shl", "shr", "sar", "rol", "ror", "imul",
             "lea",
         ];
-        const LAST_ONLY: [&str; 50] = [
-            "movabs",
-            "movslq",
-            "movsbl",
-            "movsbq",
-            "movswl",
-            "movswq",
-            "movzbl",
-            "movzbw",
-            "movzbq",
-            "movzwl",
-            "movzwq",
-            "movd",
-            "movups",
-            "movaps",
-            "movupd",
-            "movapd",
-            "movdqu",
-            "movdqa",
-            "movhps",
-            "movlps",
-            "movhpd",
-            "movlpd",
-            "pxor",
-            "por",
-            "pand",
-            "pandn",
-            "xorps",
-            "orps",
-            "andps",
-            "paddd",
-            "paddq",
-            "psubd",
-            "psubq",
-            "psllq",
-            "psrlq",
-            "pslldq",
-            "psrldq",
-            "pshufd",
-            "shufps",
-            "punpcklqdq",
-            "punpckhqdq",
-            "unpcklpd",
-            "unpckhpd",
-            "pcmpeqb",
-            "pcmpeqd",
-            "pmovmskb",
-            "movmskps",
-            "bswap",
-            "tzcnt",
-            "bsf",
-        ];
         let stem = self.name.strip_suffix(['b', 'w', 'l', 'q']).unwrap_or("");
         let sized = |names: &[&str]| self.is(names) || names.contains(&stem);
         if self.is_jump() || sized(&NOTHING) || self.is(&["push", "pop", "call", "ret", "ud2"]) || self.is(&RAX_RDX) {
@@ -256,7 +210,10 @@ impl Instruction {
         if self.is(&["xchg"]) && self.operands[0] == self.operands[1] {
             return false;
         }
-        let known = sized(&LAST) || self.is(&LAST_ONLY) || self.name.starts_with("set") || self.name.starts_with("cmov");
+        let known = sized(&LAST)
+            || LAST_ONLY.split(' ').any(|name| name == self.name)
+            || self.name.starts_with("set")
+            || self.name.starts_with("cmov");
         let one_operand_product = self.name.starts_with("imul") && self.operands.len() == 1;
         assert!(known && !one_operand_product, "not known whether it writes: {self:?}");
         true

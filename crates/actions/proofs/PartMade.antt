@@ -4,15 +4,14 @@ use mathlib.Core.List.{List, _∷_}
 use Prim.Native.Nat.{ℕ, zero, suc, _+_, _*_, _-_, _<_, _≤_}
 use native.Mathlib.Omega.{arith}
 use lib.ListN.{length, getD}
-use lib.Dec.{leb}
-use borrow.Author.Tests.{le-leb, leb-true, lt-leb}
+use borrow.Author.Tests.{le-leb, lt-leb}
 use Rattle.rules.specs.Words.{put, word}
 use Rattle.rules.specs.Shape.{InZones, Shape as PoolShape, logA, logB, zonesAt}
-use Rattle.rules.proofs.Bool.{split}
 use Rattle.powercut.specs.Log.{sealOf}
 use Rattle.powercut.specs.Steps.{Step, barrier, clear, commitSteps, recoverySteps, redo, stepPool, stepsMade, store}
 use Rattle.powercut.specs.Advance.{between, commitBarrier, redoBarrier}
 use Rattle.powercut.proofs.Between.{made-here, made-next, made-past}
+use Rattle.powercut.proofs.Parts.{redo-high, redo-low}
 use Rattle.powercut.proofs.StepCount.{commit-count, commit-redo, commit-seal, redo-barrier, redo-count, redo-data, redo-tail}
 use Rattle.words.specs.Loaded.{Loaded}
 use Rattle.layout.specs.declared.Shape.{Shape}
@@ -109,8 +108,8 @@ module _ (s : Shape) (r : InRange (shapeOf s)) (p₀ src : List ℕ) (n k₀ : �
       unfolding commitAction
       log-next e f = along-next a l (let m = commit-long (shapeOf s) src n some in omega arith) (e ∙ computed-pool (shapeOf s) p (getD listed i barrier) _ x (length p) log-made refl) f (omega arith)
 
-    pub log-end : 4 * n ≤ i → PartMade (shapeOf s) listed k₀ (4 * n) p₀ p (4 * n + 1)
-    log-end l =
+    pub log-end : {m : ℕ} → 4 * n ≤ i → m ≡ 4 * n + 1 → PartMade (shapeOf s) listed k₀ (4 * n) p₀ p m
+    log-end l e =
         let m = commit-long (shapeOf s) src n some in
         let c = length-read src 0 n in
         along-end a l (omega arith) (ap (λ (x : ℕ). getD listed x barrier) {x = 4 * n} {y = 4 * length (read src 0 n) + 0} (omega arith) ∙ commit-seal (shapeOf s) (read src 0 n) 0 (omega arith)) (omega arith)
@@ -133,8 +132,8 @@ module _ (sh : PoolShape) (src : List ℕ) (at n : ℕ) where
         along-next a l (omega arith)
         (e ∙ ap (λ y. applied y p) w ∙ ap (λ y. stepPool sh y p) (sym (redo-data sh (read src at n) i (omega arith) ∙ ap store (entry-at src at n i l)))) f (omega arith)
 
-    pub data-end : Along sh redoOf n k₀ p₀ i p → n ≤ i → PartMade sh redoOf k₀ n p₀ p (n + 1)
-    data-end a l =
+    pub data-end : {r : ℕ} → Along sh redoOf n k₀ p₀ i p → n ≤ i → r ≡ n + 1 → PartMade sh redoOf k₀ n p₀ p r
+    data-end a l e =
         let m = redo-long in
         along-end a l (omega arith) (ap (λ (x : ℕ). getD redoOf x barrier) (sym (length-read src at n)) ∙ redo-barrier sh (read src at n)) (omega arith)
 
@@ -147,8 +146,8 @@ module _ (s : Shape) (r : InRange (shapeOf s)) (p₀ src : List ℕ) (at n k₀ 
   data-inside {i} {p} {x} h a l e = redo-data-out s r p src at n i (ready-kept h (a .kept) (a .from)) x l e .inside
 
   module _ (h : Ready (shapeOf s) p₀ src at n (n + 1 + k₀)) {i : ℕ} {p : List ℕ} (a : Along (shapeOf s) stepsOf (2 * n + 1) (n + 1 + k₀) p₀ (n + 1 + i) p) where
-    pub parity-end : n ≤ i → PartMade (shapeOf s) stepsOf (n + 1 + k₀) (2 * n + 1) p₀ p (2 * n + 2)
-    parity-end l =
+    pub parity-end : {m : ℕ} → n ≤ i → m ≡ 2 * n + 2 → PartMade (shapeOf s) stepsOf (n + 1 + k₀) (2 * n + 1) p₀ p m
+    parity-end l e =
         let m = redo-long (shapeOf s) src at n in
         let c = length-read src at n in
         along-end a (omega arith) (omega arith)
@@ -210,12 +209,6 @@ module _ (sh : PoolShape) (src : List ℕ) (at n k : ℕ) {p q : List ℕ} {r : 
       (λ i v. ap (λ (x : ℕ). getD (redoOf sh src at n) x barrier) {x = 2 * n + 2 + i} {y = 2 * length (read src at n) + 1 + suc i} (omega arith) ∙ redo-tail sh (read src at n) (suc i))
       (omega arith) (omega arith) h))
 
-pub redo-within : (n k : ℕ) → k < 2 * n + 5 → (k ≤ redoBarrier n k) × (redoBarrier n k < 2 * n + 5)
-unfolding redoBarrier
-redo-within n k h =
-    split (leb k n) (λ e. rw e (let l = leb-true k n e in (omega arith, omega arith)))
-    (λ e. rw e (split (leb k (2 * n + 1)) (λ f. rw f (let l = leb-true k (2 * n + 1) f in (omega arith, omega arith))) (λ f. rw f (omega arith, omega arith))))
-
 module _ (sh : PoolShape) (src : List ℕ) (n k : ℕ) (some : 1 ≤ n) {p q : List ℕ} {r : ℕ} where
   pub commit-by-log : k ≤ 4 * n → PartMade sh (commitOf sh src n) k (4 * n) p q r → PartMade sh (commitOf sh src n) k (commitBarrier n k) p q r
   unfolding commitBarrier
@@ -248,9 +241,10 @@ module _ (sh : PoolShape) (src : List ℕ) (n k : ℕ) (some : 1 ≤ n) {p q : L
       let c = commit-long sh src n some in
       let d = length-read src 0 n in
       let f = redo-long sh src 0 n in
-      let b = redo-within n (k - (4 * n + 4)) (omega arith) in
+      let b = redo-low n (k - (4 * n + 4)) (omega arith) in
+      let t = redo-high n (k - (4 * n + 4)) in
       rw (lt-leb k (4 * n) l, lt-leb k (4 * n + 3) u)
       (part-to {k = 4 * n + 4 + (k - (4 * n + 4))} {k′ = k} (omega arith) refl
       (part-later sh (commitOf sh src n) (redoOf sh src 0 n) (4 * n + 4) (omega arith)
       (λ i v. ap (λ (x : ℕ). getD (commitOf sh src n) x barrier) {x = 4 * n + 4 + i} {y = 4 * length (read src 0 n) + 4 + i} (omega arith) ∙ commit-redo sh (read src 0 n) i (omega arith))
-      (b .0) (omega arith) h))
+      b (omega arith) h))

@@ -46,7 +46,7 @@ answer-step sh p k barrier = refl
 
 -- ---- entries by number
 
-entry-at : (p : List ℕ) (at n j : ℕ) → j < n → getD (read p at n) j none ≡ entry p (at + 16 * j)
+pub entry-at : (p : List ℕ) (at n j : ℕ) → j < n → getD (read p at n) j none ≡ entry p (at + 16 * j)
 unfolding read
 entry-at p at zero j h = absurd (not-suc-le-zero h)
 entry-at p at (suc n) zero h = ap (entry p) {x = at} {y = at + 16 * 0} (omega arith)

@@ -8,6 +8,8 @@ ghost use Rattle.layout.specs.Meaning.{InRange, Shaped, shapeOf};
 ghost use Rattle.actions.specs.Actions.{Computed, Inside, Ready, applied, clearAction, commitAction, logAction, parityAction, redoAction, sealAction};
 use layout::Shape;
 
+pub mod parts; // the steps up to the next barrier
+
 // What a step does to the pool that it meets: one aligned 8-byte store, or a barrier.
 pub enum Action {
     Store { at: usize, val: u64 },

@@ -20,22 +20,23 @@ use Rattle.rules.specs.Search.{joined, runAt}
 use Rattle.rules.specs.Zones.{bookFrom, isDamaged, isObject, objectTests, poolBook, runThere, walkIn, zoneData}
 use Rattle.rules.specs.Sound.{bookOf}
 use Rattle.rules.specs.Seals.{readTests, unsealed}
-use Rattle.rules.specs.Staging.{Phase, Store, Transaction, commitLength, committing, impossible, isLive, live, pastCommit, touch, touchWords}
+use Rattle.rules.specs.Staging.{Phase, Store, Transaction, commitLength, committing, impossible, isLive, lay, live, pastCommit, touch, touchWords}
 use Rattle.rules.specs.Answer.{conclude, isRefused, refused}
 use Rattle.rules.specs.Plan.{Call, joinedAt, plan, release, touchFree, touchJoined}
 use Rattle.rules.specs.Calls.{begun, call, callTests, calls, entriesIn, liveTests, recordTests, staged}
 use Rattle.rules.specs.NewBook.{newBook, newBooks, onTaken}
 use Rattle.powercut.specs.Log.{sealOf}
-use Rattle.powercut.specs.Steps.{commitSteps, redo}
+use Rattle.powercut.specs.Steps.{commitSteps, logStores, redo}
 use Rattle.powercut.specs.Power.{State, act, isSeal, keep, view}
-use Rattle.powercut.specs.Commit.{commitList, commitNext, commitStart, commitStep, commitTests, isCommitting, nextPhase, placeIn, startAnswer, startPhase, stepAnswer, madeAnswer}
+use Rattle.powercut.specs.Commit.{commitList, commitMore, commitNext, commitOn, commitStart, commitStep, commitTests, isCommitting, isStored, nextPhase, placeIn, startAnswer, startPhase, stepAnswer, madeAnswer}
 use Rattle.powercut.specs.Recovery.{Recovery, recovering, recoveryList}
 use Rattle.powercut.specs.WholeRun.{Accepted, Makes, Run, begin, commit, cut, cutOff, entries, holding, made, meets, next, resuming, step}
 use Rattle.powercut.specs.Claim.{End, EndsIn, Requirement3, oldOrNew}
+use Rattle.powercut.specs.Advance.{Moment, RunOn, acts, between, numberIn}
 
 -- Each definition that the run goes through, opened at once.
 opened : Unit {0}
-unfolding number digits field word put reduced low high check poolSize zoneCells zoneAt row first same within inRange headerFront headerBytes pageAt headerShape headerId headerOk validHeader shapeIn differing openTests cellsFor freeOk objectOk runOf readRun fits checkRun nextRun onward walk zoneWalk headBytes freeHead objectBytes book strike joined runAt zoneData walkIn bookFrom poolBook bookOf isObject isDamaged runThere objectTests unsealed readTests touch touchWords commitLength pastCommit isLive impossible conclude isRefused touchFree joinedAt touchJoined plan entriesIn recordTests liveTests callTests staged call calls begun onTaken newBook newBooks sealOf commitSteps redo act keep isSeal commitList commitNext commitStart commitStep commitTests isCommitting nextPhase placeIn startAnswer startPhase stepAnswer madeAnswer made entries
+unfolding number digits field word put reduced low high check poolSize zoneCells zoneAt row first same within inRange headerFront headerBytes pageAt headerShape headerId headerOk validHeader shapeIn differing openTests cellsFor freeOk objectOk runOf readRun fits checkRun nextRun onward walk zoneWalk headBytes freeHead objectBytes book strike joined runAt zoneData walkIn bookFrom poolBook bookOf isObject isDamaged runThere objectTests unsealed readTests touch touchWords commitLength pastCommit isLive impossible conclude isRefused touchFree joinedAt touchJoined plan entriesIn recordTests liveTests callTests staged call calls begun onTaken newBook newBooks sealOf commitSteps redo act keep isSeal commitList commitNext commitStart commitStep commitTests isCommitting nextPhase placeIn startAnswer startPhase stepAnswer madeAnswer made entries isStored commitMore commitOn between numberIn acts
 opened = tt
 
 abbrev sh : Shape
@@ -87,6 +88,23 @@ run-steps = next run-starts (step refl)
 pub run-cut : Run pool staging ks cutOff (state [])
 unfolding opened
 run-cut = cut {kept = []} run-steps (Sublistᴰ·cons Sublistᴰ·slnil)
+
+-- By calls up to the next barrier: the first one makes 9 steps, all entries in both logs, and a barrier.
+abbrev passed : State
+passed = record { base = lay pool (logStores sh 0 (entries pool staging ks)); pend = []; reached = false }
+
+pub run-on : RunOn pool staging ks (holding (txn (committing 9))) passed
+unfolding opened
+run-on = RunOn.on (RunOn.commit RunOn.begin refl) refl
+
+-- The power can be cut inside it, as after its first step, and after its last.
+pub moments : Moment pool staging ks (holding (txn (committing 0))) (state []) (state (stored ∷ [])) × Moment pool staging ks (holding (txn (committing 0))) (state []) passed
+unfolding opened
+moments = (Moment.commits {t = txn (committing 0)} {s = state []} {j = 1} refl (omega arith), Moment.commits {t = txn (committing 0)} {s = state []} {j = 9} refl (omega arith))
+
+pub run-cut-inside : RunOn pool staging ks cutOff (state [])
+unfolding opened
+run-cut-inside = RunOn.cut-inside {kept = []} (RunOn.commit RunOn.begin refl) (moments .0) (Sublistᴰ·cons Sublistᴰ·slnil)
 
 -- A refused step is none of the run.
 pub refused-not-accepted : (n : ℕ) → Accepted (refused n) → true ≡ false

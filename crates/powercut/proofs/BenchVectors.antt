@@ -22,8 +22,9 @@ use Rattle.rules.specs.Calls.{entriesIn, liveTests, recordTests}
 use Rattle.powercut.specs.Log.{checkIn, countIn, fromA, fromB, logEntries, markIn, sealOf, valid}
 use Rattle.powercut.specs.Steps.{Step, barrier, clear, commitSteps, logStores, neither, nothing, parity, recoverySteps, redo, remedy, replay, stepPool, stepsMade, store}
 use Rattle.powercut.specs.Power.{State, act, isSeal, keep, view}
-use Rattle.powercut.specs.Commit.{commitList, commitNext, commitStart, commitStep, commitTests, isCommitting, madeAnswer, nextPhase, placeIn, startAnswer, startPhase, stepAnswer}
-use Rattle.powercut.specs.Recovery.{Recovery, concludeRecovery, countAbove, doneSteps, finished, impossibleRecovery, isRecovering, logLost, nextProgress, recovering, recoveryList, recoveryNext, recoveryStart, recoveryStep, recoveryTests, startRecovery}
+use Rattle.powercut.specs.Commit.{commitList, commitMore, commitNext, commitOn, commitStart, commitStep, commitTests, isCommitting, isStored, madeAnswer, nextPhase, placeIn, startAnswer, startPhase, stepAnswer}
+use Rattle.powercut.specs.Recovery.{Recovery, concludeRecovery, countAbove, doneSteps, finished, impossibleRecovery, isRecovering, logLost, nextProgress, recovering, recoveryList, recoveryMore, recoveryNext, recoveryOn, recoveryStart, recoveryStep, recoveryTests, startRecovery}
+use Rattle.powercut.specs.Advance.{between, commitBarrier, commitMade, recoveryBarrier, recoveryMade, redoBarrier}
 
 abbrev tiny : Shape
 tiny = record { page = 16; rows = 2; cols = 1; zones = 1 }
@@ -314,3 +315,33 @@ pub recovery-steps : (recoveryStep (sealed seal 0) (replayed 1 0) .answer ≡ st
     × (recoveryStep fresh-pool (record { work = nothing; phase = finished }) .answer ≡ refused 29)
 unfolding recoveryStep concludeRecovery recoveryTests recoveryList recoveryNext nextProgress isRecovering doneSteps countAbove impossibleRecovery logLost recoverySteps redo stepAnswer madeAnswer valid logEntries markIn countIn checkIn first number digits field word put check low high reduced poolSize row zoneCells same within inRange headerFront headerBytes pageAt headerShape headerId headerOk validHeader shapeIn differing openTests headBytes freeHead freshZone freshZones freshPool
 recovery-steps = (refl, refl, refl, refl)
+
+-- ---- Up to the next barrier.
+
+-- Of 10 entries the parts of a commit end with steps 41, 44, 55, 66 and 69, those of a replay with 11, 22 and 25; clearing has one part.
+pub barriers : (commitBarrier 10 0 ≡ 40) × (commitBarrier 10 40 ≡ 40) × (commitBarrier 10 41 ≡ 43) × (commitBarrier 10 44 ≡ 54) × (commitBarrier 10 55 ≡ 65) × (commitBarrier 10 66 ≡ 68)
+    × (redoBarrier 10 0 ≡ 10) × (redoBarrier 10 11 ≡ 21) × (redoBarrier 10 22 ≡ 24) × (recoveryBarrier (replay fromB 10) 24 ≡ 24) × (recoveryBarrier clear 0 ≡ 2)
+unfolding commitBarrier redoBarrier recoveryBarrier
+barriers = (refl, refl, refl, refl, refl, refl, refl, refl, refl, refl, refl)
+
+-- Steps 6 to 8 of the commit of one entry: part 2.
+pub steps-between : (between 5 8 (commitSteps tiny one) ≡ store (at 32 seal1) ∷ store (at 160 seal1) ∷ barrier ∷ []) × (between 8 8 (commitSteps tiny one) ≡ [])
+unfolding between commitSteps redo sealOf check low high reduced digits
+steps-between = (refl, refl)
+
+-- Five calls make the 15 steps of a commit of one entry, the last of them clears both seals; and one that is refused.
+pub commit-calls : (commitOn (given fresh-pool 1 (committing 0)) .answer ≡ passed 5) × (commitOn (given (sealed 0 0) 1 (committing 5)) .answer ≡ passed 8)
+    × (commitOn (given (sealed seal seal) 1 (committing 8)) .answer ≡ passed 10) × (commitOn (given (sealed seal seal) 1 (committing 10)) .answer ≡ passed 12)
+    × (commitOn (given (sealed seal 0) 1 (committing 0)) ≡ record { answer = refused 21; left = given (sealed seal 0) 1 (committing 0) })
+    × (commitOn (given (sealed seal seal) 1 (committing 12)) ≡ record { answer = done 15; left = given (sealed 0 0) 1 closed })
+    × (commitMade (given (sealed seal seal) 1 (committing 12)) 12 14 ≡ record { answer = done 15; left = given (sealed 0 0) 1 closed })
+unfolding commitMade between stepsMade commitOn commitMore isStored commitStep nextPhase commitTests commitList commitNext isCommitting placeIn stepAnswer madeAnswer commitSteps redo entriesIn conclude recordTests unsealed impossible pastCommit commitLength first number digits field word put check low high reduced parityWord xorTo byteAt off zone rowAt poolSize row zoneCells same within inRange headerFront headerBytes pageAt headerShape headerId headerOk validHeader shapeIn differing openTests headBytes freeHead freshZone freshZones freshPool
+commit-calls = (refl, refl, refl, refl, refl, refl, refl)
+
+-- Three calls make the 7 steps of a replay of one entry, one the 3 of clearing; and one that is refused.
+pub recovery-calls : (recoveryOn (sealed seal 0) (replayed 1 0) .answer ≡ passed 2) × (recoveryOn (sealed seal 0) (replayed 1 2) .answer ≡ passed 4)
+    × (recoveryOn (sealed seal seal) (replayed 1 4) ≡ record { answer = done 7; pool = sealed 0 0; recovery = record { work = replay fromA 1; phase = finished } })
+    × (recoveryMade (sealed seal seal) (replayed 1 4) 4 6 ≡ record { answer = done 7; pool = sealed 0 0; recovery = record { work = replay fromA 1; phase = finished } })
+    × (recoveryOn (sealed 0 seal) (record { work = clear; phase = recovering 0 }) .answer ≡ done 3) × (recoveryOn fresh-pool (replayed 1 0) .answer ≡ refused 10)
+unfolding recoveryMade between stepsMade recoveryOn recoveryMore isStored recoveryStep concludeRecovery recoveryTests recoveryList recoveryNext nextProgress isRecovering doneSteps countAbove impossibleRecovery logLost recoverySteps redo stepAnswer madeAnswer valid logEntries markIn countIn checkIn first number digits field word put check low high reduced parityWord xorTo byteAt off zone rowAt poolSize row zoneCells same within inRange headerFront headerBytes pageAt headerShape headerId headerOk validHeader shapeIn differing openTests headBytes freeHead freshZone freshZones freshPool
+recovery-calls = (refl, refl, refl, refl, refl, refl)

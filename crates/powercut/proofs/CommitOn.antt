@@ -15,7 +15,7 @@ use Rattle.rules.specs.Shape.{Shape, entryLimit, stagingSize}
 use Rattle.rules.specs.Test.{first}
 use Rattle.rules.specs.Header.{openTests, shapeIn}
 use Rattle.rules.specs.Staging.{Phase, closed, commitLength, committing, entriesAt, goodTargets, impossible, live, pastCommit}
-use Rattle.rules.specs.Answer.{After, Answer, Given, address, conclude, done, isRefused, passed, refused, started, stored, taken}
+use Rattle.rules.specs.Answer.{After, Answer, Given, conclude, isRefused, stored}
 use Rattle.rules.specs.Calls.{entriesIn, recordTests}
 use Rattle.rules.proofs.Bool.{or-false, split}
 use Rattle.rules.proofs.Test.{Passed, first-passed, not-not, passed-first, passed-join, passed-left, passed-right}
@@ -31,7 +31,7 @@ use Rattle.powercut.proofs.Parts.{answer-barrier, answer-stored, commit
 use Rattle.powercut.proofs.RunMatches.{commit-some, list-length, place-is, step-none}
 use Rattle.powercut.proofs.PowerCut.{answer-not-refused, not-impossible, phase-on}
 use Rattle.powercut.proofs.Untouched.{commit-from, headers-untouched, step-untouched}
-use Rattle.powercut.proofs.Refusals.{step-refused}
+use Rattle.powercut.proofs.Refusals.{refused-is, step-refused}
 
 -- ---- at most m steps more
 
@@ -43,21 +43,6 @@ more-stops (suc m) x h = rw h
 more-goes : (m : ℕ) (x : After) → isStored (x .answer) ≡ true → commitMore (suc m) x ≡ commitMore m (commitStep (x .left))
 unfolding commitMore
 more-goes m x h = rw h
-
--- a refusal ends the call
-refused-not-stored : (a : Answer) → isRefused a ≡ true → isStored a ≡ false
-unfolding isRefused isStored
-refused-not-stored (address a) e = refl
-refused-not-stored taken e = refl
-refused-not-stored started e = refl
-refused-not-stored (stored k) e = sym e
-refused-not-stored (passed k) e = refl
-refused-not-stored (done k) e = refl
-refused-not-stored (refused n) e = refl
-
-refused-on : (g : Given) → isRefused (commitStep g .answer) ≡ true → commitOn g ≡ commitStep g
-unfolding commitOn
-refused-on g e = more-stops _ (commitStep g) (refused-not-stored (commitStep g .answer) e)
 
 -- ---- what an accepted step tells
 
@@ -226,22 +211,34 @@ all-made (suc i) k g c o l = ⊎-elim (last-made g k c o (suc i))
 
 -- THE CALL UP TO THE NEXT BARRIER
 pub commit-advances : (g : Given) → CommitAdvances g
-unfolding commitOn isRefused
+unfolding commitOn isRefused isStored
 commit-advances g = record {
-  refuses = λ n e. refused-on g (ap isRefused e) ∙ ap₂ (λ (a : Answer) (h : Given). record { answer = a; left = h }) e (step-refused g (ap isRefused e));
+  refuses = λ n e. more-stops _ (commitStep g) (ap isStored e) ∙ ap₂ (λ (a : Answer) (h : Given). record { answer = a; left = h }) e (step-refused g (ap isRefused e));
   makes = λ k e f.
       let c = accepted-committing g k e f in
       all-made _ k g c (step-none g f) (let a = in-list g k c in let b = place-is (g .txn .phase) k e in omega arith);
 }
 
+made-accepted : (g : Given) (k e : ℕ) → Accepted (commitMade g k e .answer)
+unfolding commitMade
+made-accepted g k e = answer-not-refused e (length (commitList g)) barrier
+
+-- the call is accepted where its first step is
+pub commit-on-accepted : (g : Given) → Accepted (commitOn g .answer) → Accepted (commitStep g .answer)
+unfolding isRefused
+commit-on-accepted g f = split (isRefused (commitStep g .answer))
+    (λ h. let w = refused-is (commitStep g .answer) h in
+    let e = ap (λ (x : After). isRefused (x .answer)) (commit-advances g .refuses (w .0) (w .1)) in
+    let z : _≡_ {A = ℕ} 0 1 = cc in
+    absurd (omega arith))
+    (λ h. h)
+
 -- a refused call leaves pool, staging and record as given
 pub commit-on-refused : (g : Given) → KeepsGiven g (commitOn g)
 commit-on-refused g r = split (isRefused (commitStep g .answer))
-    (λ h. ap (λ (x : After). x .left) (refused-on g h) ∙ step-refused g h)
+    (λ h. let w = refused-is (commitStep g .answer) h in ap (λ (x : After). x .left) (commit-advances g .refuses (w .0) (w .1)))
     (λ f. let w = accepted-place g f in
     let a = ap (λ (x : After). isRefused (x .answer)) (commit-advances g .makes (w .0) (w .1) f) in
     let b = made-accepted g (w .0) (commitBarrier (g .txn .count) (w .0)) in
-    let z : _≡_ {A = ℕ} 0 1 = cc in absurd (omega arith))
-  where
-    made-accepted : (g : Given) (k e : ℕ) → Accepted (commitMade g k e .answer)
-    made-accepted g k e = unfold commitMade in (answer-not-refused e (length (commitList g)) barrier)
+    let z : _≡_ {A = ℕ} 0 1 = cc in
+    absurd (omega arith))

@@ -287,13 +287,21 @@ module _ (inp : Input) where
       → Accepted (recoveryStart (view s) .answer) × ((recoveryStart (view s) .recovery .phase ≡ finished) ⊎ (recoveryStart (view s) .recovery .phase ≡ recovering 0))
   restarts s r = let i = restarted s r in (i .0, ⊎-elim inl (λ h. inr (h .0)) (i .1))
 
+  -- a recovery that has a step to make replays a log with all entries
+  pub running-replay : (q : Remedy) (s : State) (k : ℕ) → RecoveryMatches inp q (recovering k) s → (l : Log) × (q ≡ replay l (length es))
+  running-replay q s k c = go (claim inp .remedies s q k (c .1))
+    where
+      go : (q ≡ nothing) ⊎ ((l : Log) × (q ≡ replay l (length es))) → (l : Log) × (q ≡ replay l (length es))
+      go (inl i) = absurd (no-steps sh (view s) k (subst (λ (x : Remedy). k < length (recoverySteps sh (view s) x)) i (c .0)))
+      go (inr i) = i
+
   resumes : (r : Recovery) (s : State) (k : ℕ) → Run pool staging ks (resuming r) s → r .phase ≡ recovering k
       → StepTaken pool staging ks (recoveryStep (view s) r .answer) (recoveryStep (view s) r .pool) s (recoveryNext (view s) r) k (recoveryList (view s) r) (2 * length es + 5)
   resumes r s k u e =
       let c : RecoveryMatches inp (r .work) (recovering k) s = subst (λ (f : Progress). RecoveryMatches inp (r .work) f s) e (run-matches inp u) in
       let x = shape-is inp (c .1) in
       let m : recoveryList (view s) r ≡ recoverySteps sh (view s) (r .work) = list-of x in
-      let w = which (claim inp .remedies s (r .work) k (c .1)) (c .0) in
+      let w = running-replay (r .work) s k c in
       let n : length (recoveryList (view s) r) ≡ 2 * length es + 5 = ap length m ∙ ap (λ (q : Remedy). length (recoverySteps sh (view s) q)) (w .1) ∙ replay-count sh (view s) (w .0) (length es) in
       let b = claim inp .log-kept s (w .0) (length es) k
       (subst (λ (q : Remedy). StepRun sh es pool (atRecovery q k) s) (w .1) (c .1)) in
@@ -307,10 +315,6 @@ module _ (inp : Input) where
     where
       list-of : shapeIn (view s) ≡ sh → recoveryList (view s) r ≡ recoverySteps sh (view s) (r .work)
       list-of x = unfold recoveryList in (rw x)
-
-      which : (r .work ≡ nothing) ⊎ ((l : Log) × (r .work ≡ replay l (length es))) → k < length (recoverySteps sh (view s) (r .work)) → (l : Log) × (r .work ≡ replay l (length es))
-      which (inl i) l = absurd (no-steps sh (view s) k (subst (λ (q : Remedy). k < length (recoverySteps sh (view s) q)) i l))
-      which (inr i) l = i
 
       lost-not : (l : Log) → (k < 2 * length es + 2 → (valid sh (view s) (logAt sh l) ≡ true) × (countIn (word (view s) (logAt sh l)) ≡ length es))
           → logLost sh (view s) (replay l (length es)) k ≡ false

@@ -16,6 +16,7 @@ use Rattle.rules.specs.Test.{first}
 use Rattle.rules.specs.Header.{openTests, shapeIn}
 use Rattle.rules.specs.Staging.{Store, entriesAt, goodTargets}
 use Rattle.rules.specs.Answer.{isRefused, refused}
+use Rattle.rules.proofs.Bool.{split}
 use Rattle.rules.proofs.Test.{Passed, first-passed, passed-first}
 use Rattle.rules.proofs.Shape.{Good}
 use Rattle.rules.proofs.Words.{put-out}
@@ -26,26 +27,27 @@ use Rattle.powercut.specs.Steps.{Remedy, Step, barrier, clear, neither, 
 use Rattle.powercut.specs.Commit.{isStored, stepAnswer}
 use Rattle.powercut.specs.Recovery.{Progress, Recovery, RecoveryAfter, concludeRecovery, countAbove, doneSteps, finished, isRecovering, logLost, nextProgress, recovering, recoveryList, recoveryMore, recoveryNext, recoveryOn, recoveryStep, recoveryTests}
 use Rattle.powercut.specs.WholeRun.{Accepted}
+use Rattle.powercut.specs.Requirements.{KeepsRecovery}
 use Rattle.powercut.specs.Advance.{RecoveryAdvances, between, recoveryBarrier, recoveryMade, redoBarrier}
 use Rattle.powercut.proofs.StepCount.{redo-tail, replay-count}
 use Rattle.powercut.proofs.Logs.{judged-kept, log-targets}
 use Rattle.powercut.proofs.RunMatches.{Possible, again-none, again-possible, done-is}
-use Rattle.powercut.proofs.PowerCut.{accepted-again, again-passed, log-past, log-there, progress-on}
-use Rattle.powercut.proofs.Refusals.{recovery-step-refused}
+use Rattle.powercut.proofs.PowerCut.{accepted-again, again-passed, answer-not-refused, log-past, log-there, progress-on}
+use Rattle.powercut.proofs.Refusals.{recovery-step-refused, refused-is}
 use Rattle.powercut.proofs.Between.{made-here, made-next}
 use Rattle.powercut.proofs.Parts.{RedoPart, clears, data-words, answer-barrier, answer-stored, isStore, parity-words, redo-ends, redo-high, redo-low, redo-part, redo-stays, redo-store}
 use Rattle.powercut.proofs.Untouched.{Untouched, clear-from, entries-same, entries-untouched, headers-untouched, redo-from, redo-in-zones, step-untouched, word-untouched}
 
 -- ---- the part of a step
 
-record Part (xs : List Step) (w : Remedy) (k : ℕ) : Type 0 where
-  low : k ≤ recoveryBarrier w k
-  high : recoveryBarrier w k < length xs
+pub record Part (xs : List Step) (w : Remedy) (k : ℕ) : Type 0 where
+  pub low : k ≤ recoveryBarrier w k
+  pub high : recoveryBarrier w k < length xs
   stays : k < recoveryBarrier w k → recoveryBarrier w (suc k) ≡ recoveryBarrier w k
   stores : k < recoveryBarrier w k → isStore (getD xs k barrier) ≡ true
   ends : getD xs (recoveryBarrier w k) barrier ≡ barrier
 
-part-of : (sh : Shape) (p : List ℕ) (w : Remedy) (k : ℕ) → k < length (recoverySteps sh p w) → Part (recoverySteps sh p w) w k
+pub part-of : (sh : Shape) (p : List ℕ) (w : Remedy) (k : ℕ) → k < length (recoverySteps sh p w) → Part (recoverySteps sh p w) w k
 unfolding recoverySteps recoveryBarrier
 part-of sh p (replay l n) k h =
     let c = replay-count sh p l n in
@@ -322,6 +324,41 @@ recovery-advances p r = record { refuses = refuses; makes = makes }
         subst (λ (f : Progress). Accepted (recoveryStep p (record { work = r .work; phase = f }) .answer)
         → recoveryOn p (record { work = r .work; phase = f }) ≡ recoveryMade p (record { work = r .work; phase = f }) k (recoveryBarrier (r .work) k)) (sym e) (makes-part (r .work) p k)
 
+-- ---- accepted and refused calls
+
+pub recovery-place : (p : List ℕ) (r : Recovery) → Accepted (recoveryStep p r .answer) → (k : ℕ) × (r .phase ≡ recovering k)
+recovery-place p r f = go (r .phase) (again-possible p r (again-none p r f) .1)
+  where
+    go : (x : Progress) → isRecovering x ≡ true → (k : ℕ) × (x ≡ recovering k)
+    go (recovering k) h = (k, refl)
+    go finished h = unfold isRecovering in (0, cc)
+
+made-accepted : (p : List ℕ) (r : Recovery) (k e : ℕ) → Accepted (recoveryMade p r k e .answer)
+unfolding recoveryMade
+made-accepted p r k e = answer-not-refused e (length (recoveryList p r)) barrier
+
+-- the call is accepted where its first step is
+pub recovery-on-accepted : (p : List ℕ) (r : Recovery) → Accepted (recoveryOn p r .answer) → Accepted (recoveryStep p r .answer)
+unfolding isRefused
+recovery-on-accepted p r f = split (isRefused (recoveryStep p r .answer))
+    (λ h. let w = refused-is (recoveryStep p r .answer) h in
+    let e = ap (λ (x : RecoveryAfter). isRefused (x .answer)) (recovery-advances p r .refuses (w .0) (w .1)) in
+    let z : _≡_ {A = ℕ} 0 1 = cc in
+    absurd (omega arith))
+    (λ h. h)
+
+-- a refused call leaves pool and record as given
+pub recovery-on-refused : (p : List ℕ) (r : Recovery) → KeepsRecovery p r (recoveryOn p r)
+recovery-on-refused p r x = split (isRefused (recoveryStep p r .answer))
+    (λ h. let w = refused-is (recoveryStep p r .answer) h in
+    let e = recovery-advances p r .refuses (w .0) (w .1) in
+    (ap (λ (y : RecoveryAfter). y .pool) e, ap (λ (y : RecoveryAfter). y .recovery) e))
+    (λ f. let w = recovery-place p r f in
+    let a = ap (λ (y : RecoveryAfter). isRefused (y .answer)) (recovery-advances p r .makes (w .0) (w .1) f) in
+    let b = made-accepted p r (w .0) (recoveryBarrier (r .work) (w .0)) in
+    let z : _≡_ {A = ℕ} 0 1 = cc in
+    absurd (omega arith))
+
 -- THE SAME AS ONE EQUATION: the tests of a step, then all steps of the part
 pub recovery-on : (p : List ℕ) (r : Recovery)
     → recoveryOn p r ≡ concludeRecovery p r (first (recoveryTests p r)) (recoveryMade p r (doneSteps (r .phase)) (recoveryBarrier (r .work) (doneSteps (r .phase))))
@@ -330,10 +367,9 @@ recovery-on p r = go (first (recoveryTests p r)) refl
     left : ℕ → RecoveryAfter
     left k = recoveryMade p r k (recoveryBarrier (r .work) k)
 
-    on : (f : Progress) → r .phase ≡ f → first (recoveryTests p r) ≡ none → recoveryOn p r ≡ left (doneSteps (r .phase))
-    on (recovering k) f e = recovery-advances p r .makes k f (accepted-again p r (first-passed _ e) .0) ∙ ap left (sym (done-is (r .phase) k f))
-    on finished f e = absurd (unfold isRecovering in (let z : _≡_ {A = ℕ} 0 1 = cc (again-possible p r e .1, ap isRecovering f) in omega arith))
-
     go : (o : Option ℕ) → first (recoveryTests p r) ≡ o → recoveryOn p r ≡ concludeRecovery p r o (left (doneSteps (r .phase)))
     go (some n) e = unfold concludeRecovery in recovery-advances p r .refuses n (unfold recoveryStep concludeRecovery in rw e)
-    go none e = unfold concludeRecovery in on (r .phase) refl e
+    go none e =
+        let a = accepted-again p r (first-passed (recoveryTests p r) e) .0 in
+        let w = recovery-place p r a in
+        unfold concludeRecovery in recovery-advances p r .makes (w .0) (w .1) a ∙ ap left (sym (done-is (r .phase) (w .0) (w .1)))

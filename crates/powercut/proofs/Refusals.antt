@@ -7,12 +7,22 @@ use mathlib.Core.List.{List}
 use native.Mathlib.Omega.{arith}
 use Rattle.rules.specs.Test.{first}
 use Rattle.rules.specs.Header.{openTests, shapeIn}
-use Rattle.rules.specs.Answer.{Given, isRefused}
+use Rattle.rules.specs.Answer.{Answer, Given, address, done, isRefused, passed, refused, started, stored, taken}
 use Rattle.rules.proofs.Transaction.{conclude-refused}
 use Rattle.powercut.specs.Steps.{Remedy, clear, neither, nothing, remedy, replay}
 use Rattle.powercut.specs.Commit.{commitStart, commitStep}
 use Rattle.powercut.specs.Recovery.{Recovery, RecoveryAfter, concludeRecovery, idle, recoveryStart, recoveryStep, startRecovery}
 use Rattle.powercut.proofs.PowerCut.{answer-not-refused, start-not-refused}
+
+pub refused-is : (a : Answer) → isRefused a ≡ true → (n : ℕ) × (a ≡ refused n)
+unfolding isRefused
+refused-is (address a) e = (0, cc)
+refused-is taken e = (0, cc)
+refused-is started e = (0, cc)
+refused-is (stored k) e = (0, cc)
+refused-is (passed k) e = (0, cc)
+refused-is (done k) e = (0, cc)
+refused-is (refused n) e = (n, refl)
 
 pub start-refused : (g : Given) → isRefused (commitStart g .answer) ≡ true → commitStart g .left ≡ g
 unfolding commitStart

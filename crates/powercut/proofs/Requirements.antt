@@ -31,6 +31,7 @@ use Rattle.powercut.specs.Claim.{new}
 use Rattle.powercut.specs.Requirements.{KeepsPool, Mended, Requirement1, Requirement2}
 use Rattle.powercut.proofs.Refusals.{recovery-start-pool, recovery-step-refused, start-refused, step-refused}
 use Rattle.powercut.proofs.CommitOn.{commit-on-refused}
+use Rattle.powercut.proofs.RecoveryOn.{recovery-on-refused}
 use Rattle.powercut.proofs.RunMatches.{held}
 use Rattle.powercut.proofs.Committed.{commits-exactly}
 
@@ -60,6 +61,7 @@ requirement-1 = record {
   advances = commit-on-refused;
   restarts = λ p e. recovery-start-pool p;
   resumes = recovery-step-refused;
+  readvances = recovery-on-refused;
 }
 
 -- a call on the pool alone that is not refused passes its tests

@@ -113,7 +113,7 @@ pub again-left : (p : List ℕ) (r : Recovery) → Accepted (recoveryStep p r .a
 unfolding recoveryStep concludeRecovery
 again-left p r f = rw (again-none p r f)
 
-next-is : (g : Given) (k : ℕ) (l : List Step) → g .txn .phase ≡ committing k → commitList g ≡ l → commitNext g ≡ getD l k barrier
+pub next-is : (g : Given) (k : ℕ) (l : List Step) → g .txn .phase ≡ committing k → commitList g ≡ l → commitNext g ≡ getD l k barrier
 unfolding commitNext placeIn
 next-is g k l e m = ap₂ (λ (l : List Step) (j : ℕ). getD l j barrier) m (ap placeIn e)
 
@@ -121,11 +121,11 @@ pub place-is : (f : Phase) (k : ℕ) → f ≡ committing k → placeIn f ≡ k
 unfolding placeIn
 place-is f k e = ap placeIn e
 
-again-next : (p : List ℕ) (r : Recovery) (k : ℕ) (l : List Step) → r .phase ≡ recovering k → recoveryList p r ≡ l → recoveryNext p r ≡ getD l k barrier
+pub again-next : (p : List ℕ) (r : Recovery) (k : ℕ) (l : List Step) → r .phase ≡ recovering k → recoveryList p r ≡ l → recoveryNext p r ≡ getD l k barrier
 unfolding recoveryNext doneSteps
 again-next p r k l e m = ap₂ (λ (l : List Step) (j : ℕ). getD l j barrier) m (ap doneSteps e)
 
-list-is : (p : List ℕ) (r : Recovery) (sh : Shape) → shapeIn p ≡ sh → recoveryList p r ≡ recoverySteps sh p (r .work)
+pub list-is : (p : List ℕ) (r : Recovery) (sh : Shape) → shapeIn p ≡ sh → recoveryList p r ≡ recoverySteps sh p (r .work)
 unfolding recoveryList
 list-is p r sh e = ap (λ (x : Shape). recoverySteps x p (r .work)) e
 

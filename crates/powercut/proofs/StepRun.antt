@@ -11,7 +11,7 @@ use Rattle.rules.specs.Shape.{Shape, entryLimit, logA, logB, poolSize}
 use Rattle.rules.specs.Staging.{Store, goodTargets}
 use Rattle.rules.specs.Parity.{Parity}
 use Rattle.powercut.specs.Log.{Log, countIn, logAt, valid}
-use Rattle.powercut.specs.Steps.{Remedy, barrier, commitSteps, neither, nothing, recoverySteps, remedy, replay}
+use Rattle.powercut.specs.Steps.{Remedy, barrier, commitSteps, neither, nothing, recoverySteps, redo, remedy, replay}
 use Rattle.powercut.specs.Power.{State, act, keep, view}
 use Rattle.powercut.specs.Claim.{SameData, stagedOrOld}
 
@@ -62,6 +62,8 @@ module _ (sh : Shape) where
     pub remedies : (s : State) (q : Remedy) (k : ℕ) → StepRun sh es p₀ (atRecovery q k) s → (q ≡ nothing) ⊎ ((l : Log) × (q ≡ replay l (length es)))
     -- after a cut there is nothing to do, or a seal has reached memory
     pub sealed : (s : State) → StepRun sh es p₀ atCut s → (remedy sh (view s) ≡ nothing) ⊎ (s .reached ≡ true)
+    -- a replay has the same steps at every moment
+    pub replays : (s : State) (l : Log) (n k : ℕ) → StepRun sh es p₀ (atRecovery (replay l n) k) s → recoverySteps sh (view s) (replay l n) ≡ redo sh es
     -- while a recovery stores data or parity, its log is valid with its count
     pub log-kept : (s : State) (l : Log) (n k : ℕ) → StepRun sh es p₀ (atRecovery (replay l n) k) s → k < 2 * n + 2
         → (valid sh (view s) (logAt sh l) ≡ true) × (countIn (word (view s) (logAt sh l)) ≡ n)

@@ -21,7 +21,7 @@ use Rattle.powercut.proofs.StepRun.{Claim, StepRun, Ended, Entries, Cle
 use Rattle.powercut.proofs.FinalPool.{ParityW, Setting, final-first, final-parity, finalPool, par-cong, pars-row, targets-all, targets-distinct}
 use Rattle.powercut.proofs.Logs.{even-at, remedy-nothing}
 use Rattle.powercut.proofs.Redo.{Outside, CleanAt, even-A, even-B, in-A, in-B, new, pars}
-use Rattle.powercut.proofs.StepRunInvariant.{Inv, commit-done, cut-sealed, log-kept, not-refused, recovery-done, run-inv}
+use Rattle.powercut.proofs.StepRunInvariant.{Inv, commit-done, cut-sealed, log-kept, not-refused, recovery-done, run-inv, steps-redo}
 use Rattle.powercut.proofs.ByteParity.{byte-at, parity-bytes, parity-words, row-byte}
 
 floor8 : (s i : ℕ) → s % 8 ≡ 0 → s ≤ i → s ≤ i / 8 * 8
@@ -163,6 +163,7 @@ step-run-claim sh g p₀ [] q h = record {
   never-refused = λ s r e. let a = unchanged-remedy sh p₀ q s (run-unchanged sh p₀ q r) in let z : _≡_ {A = ℕ} 0 1 = cc in omega arith;
   remedies = λ s x k r. inl (run-unchanged sh p₀ q r .0);
   sealed = λ s r. inl (unchanged-remedy sh p₀ q s (run-unchanged sh p₀ q r));
+  replays = λ s b n k r. let a = run-unchanged sh p₀ q r .0 in let z : _≡_ {A = ℕ} 0 1 = cc in absurd (omega arith);
   log-kept = λ s b n k r l. let a = run-unchanged sh p₀ q r .0 in let z : _≡_ {A = ℕ} 0 1 = cc in absurd (omega arith);
 }
 step-run-claim sh g p₀ (e ∷ es) q h =
@@ -173,5 +174,6 @@ step-run-claim sh g p₀ (e ∷ es) q h =
       never-refused = not-refused sh (e ∷ es) p₀ c;
       remedies = λ s x k r. remedy-of sh (e ∷ es) p₀ s x k (run-inv sh (e ∷ es) p₀ c r);
       sealed = cut-sealed sh (e ∷ es) p₀ c;
+      replays = λ s b n k r. steps-redo sh (e ∷ es) p₀ c s b n k (run-inv sh (e ∷ es) p₀ c r);
       log-kept = log-kept sh (e ∷ es) p₀ c;
     }

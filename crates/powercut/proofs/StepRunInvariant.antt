@@ -38,7 +38,7 @@ module _ (sh : Shape) (es : List Store) (p₀ : List ℕ) (c : Setting sh es p�
   read : (p : List ℕ) (l : Log) → All (λ a w. word p a ≡ w) (logs sh es p₀) → entriesAt p (logAt sh l + logHead) (length es) ≡ es
   read p l h = log-reads sh (c .good) l p 0 es h (logAt sh l + logHead) (omega arith)
 
-  steps-redo : (s : State) (l : Log) (n k : ℕ) → Inv sh es p₀ (atRecovery (replay l n) k) s → recoverySteps sh (view s) (replay l n) ≡ redo sh es
+  pub steps-redo : (s : State) (l : Log) (n k : ℕ) → Inv sh es p₀ (atRecovery (replay l n) k) s → recoverySteps sh (view s) (replay l n) ≡ redo sh es
   unfolding recoverySteps
   steps-redo s l n k h =
       ap (redo sh) (ap (entriesAt (view s) (logAt sh l + logHead)) (h .0)

@@ -25,8 +25,9 @@ use Rattle.transaction.specs.declared.Reply.{Reply}
 use Rattle.transaction.specs.Meaning.{afterOf, givenOf, transactionOf}
 use Rattle.saving.specs.Meaning.{outcomeOf}
 use Rattle.saving.specs.Saving.{Outcome, Saves, Told, committedFor, isDone, saveOn, saved, savedAs}
-use Rattle.saving.proofs.Uncut.{Ended, commit-ends, refused-is}
+use Rattle.saving.proofs.Uncut.{Ended, commit-ends}
 use Rattle.powercut.proofs.RunMatches.{accepted-none, concluded}
+use Rattle.powercut.proofs.Refusals.{refused-is}
 
 -- ---- what allocate hands back in a fresh transaction: r, with staging memory st, and whether it is a refusal
 

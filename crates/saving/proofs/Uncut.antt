@@ -11,7 +11,7 @@ use lib.ListN.{length}
 use Rattle.rules.specs.Shape.{stagingSize}
 use Rattle.rules.specs.Header.{shapeIn}
 use Rattle.rules.specs.Staging.{Transaction, closed, committing}
-use Rattle.rules.specs.Answer.{After, Answer, Given, address, done, isRefused, passed, refused, started, stored, taken}
+use Rattle.rules.specs.Answer.{After, Given, done, isRefused}
 use Rattle.rules.specs.Plan.{Call}
 use Rattle.rules.specs.Calls.{AllTyped, begun}
 use Rattle.rules.specs.Sound.{Sound, bookOf}
@@ -28,16 +28,6 @@ use Rattle.saving.specs.Saving.{committedFor, isDone, isEnd, stepsFrom}
 use Rattle.saving.proofs.Saving.{done-ends, steps-end, steps-next}
 
 -- ---- answers
-
-pub refused-is : (a : Answer) → isRefused a ≡ true → (n : ℕ) × (a ≡ refused n)
-unfolding isRefused
-refused-is (address a) e = (0, cc)
-refused-is taken e = (0, cc)
-refused-is started e = (0, cc)
-refused-is (stored k) e = (0, cc)
-refused-is (passed k) e = (0, cc)
-refused-is (done k) e = (0, cc)
-refused-is (refused n) e = (n, refl)
 
 start-answer : (g : Given) → Accepted (commitStart g .answer) → commitStart g .answer ≡ startAnswer (g .txn .count)
 unfolding commitStart

@@ -4,15 +4,14 @@ use mathlib.Core.List.{List, _∷_}
 use Prim.Native.Nat.{ℕ, zero, suc, _+_, _*_, _-_, _<_, _≤_}
 use native.Mathlib.Omega.{arith}
 use lib.ListN.{length, getD}
-use lib.Dec.{leb}
-use borrow.Author.Tests.{le-leb, leb-true, lt-leb}
+use borrow.Author.Tests.{le-leb, lt-leb}
 use Rattle.rules.specs.Words.{put, word}
 use Rattle.rules.specs.Shape.{InZones, Shape as PoolShape, logA, logB, zonesAt}
-use Rattle.rules.proofs.Bool.{split}
 use Rattle.powercut.specs.Log.{sealOf}
 use Rattle.powercut.specs.Steps.{Step, barrier, clear, commitSteps, recoverySteps, redo, stepPool, stepsMade, store}
 use Rattle.powercut.specs.Advance.{between, commitBarrier, redoBarrier}
 use Rattle.powercut.proofs.Between.{made-here, made-next, made-past}
+use Rattle.powercut.proofs.Parts.{redo-high, redo-low}
 use Rattle.powercut.proofs.StepCount.{commit-count, commit-redo, commit-seal, redo-barrier, redo-count, redo-data, redo-tail}
 use Rattle.words.specs.Loaded.{Loaded}
 use Rattle.layout.specs.declared.Shape.{Shape}
@@ -210,12 +209,6 @@ module _ (sh : PoolShape) (src : List ℕ) (at n k : ℕ) {p q : List ℕ} {r : 
       (λ i v. ap (λ (x : ℕ). getD (redoOf sh src at n) x barrier) {x = 2 * n + 2 + i} {y = 2 * length (read src at n) + 1 + suc i} (omega arith) ∙ redo-tail sh (read src at n) (suc i))
       (omega arith) (omega arith) h))
 
-pub redo-within : (n k : ℕ) → k < 2 * n + 5 → (k ≤ redoBarrier n k) × (redoBarrier n k < 2 * n + 5)
-unfolding redoBarrier
-redo-within n k h =
-    split (leb k n) (λ e. rw e (let l = leb-true k n e in (omega arith, omega arith)))
-    (λ e. rw e (split (leb k (2 * n + 1)) (λ f. rw f (let l = leb-true k (2 * n + 1) f in (omega arith, omega arith))) (λ f. rw f (omega arith, omega arith))))
-
 module _ (sh : PoolShape) (src : List ℕ) (n k : ℕ) (some : 1 ≤ n) {p q : List ℕ} {r : ℕ} where
   pub commit-by-log : k ≤ 4 * n → PartMade sh (commitOf sh src n) k (4 * n) p q r → PartMade sh (commitOf sh src n) k (commitBarrier n k) p q r
   unfolding commitBarrier
@@ -248,9 +241,10 @@ module _ (sh : PoolShape) (src : List ℕ) (n k : ℕ) (some : 1 ≤ n) {p q : L
       let c = commit-long sh src n some in
       let d = length-read src 0 n in
       let f = redo-long sh src 0 n in
-      let b = redo-within n (k - (4 * n + 4)) (omega arith) in
+      let b = redo-low n (k - (4 * n + 4)) (omega arith) in
+      let t = redo-high n (k - (4 * n + 4)) in
       rw (lt-leb k (4 * n) l, lt-leb k (4 * n + 3) u)
       (part-to {k = 4 * n + 4 + (k - (4 * n + 4))} {k′ = k} (omega arith) refl
       (part-later sh (commitOf sh src n) (redoOf sh src 0 n) (4 * n + 4) (omega arith)
       (λ i v. ap (λ (x : ℕ). getD (commitOf sh src n) x barrier) {x = 4 * n + 4 + i} {y = 4 * length (read src 0 n) + 4 + i} (omega arith) ∙ commit-redo sh (read src 0 n) i (omega arith))
-      (b .0) (omega arith) h))
+      b (omega arith) h))

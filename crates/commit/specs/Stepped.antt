@@ -1,14 +1,17 @@
 -- What a commit's start and step answer and leave, in 01's terms and in the code's. Assumes nothing.
 use Prim.Native.Nat.{ℕ}
-use mathlib.Core.Bool.{cond}
-use mathlib.Core.List.{List}
+use mathlib.Core.Bool.{_&&_, cond, not}
+use mathlib.Core.Option.{Option, none, some}
+use mathlib.Core.List.{List, [], _∷_}
 use lib.Dec.{eqb}
 use lib.ListN.{length, getD}
 use Rattle.rules.specs.Shape.{Shape}
-use Rattle.rules.specs.Staging.{entriesAt}
+use Rattle.rules.specs.Test.{Test, when}
+use Rattle.rules.specs.Seals.{unsealed}
+use Rattle.rules.specs.Staging.{Phase, entriesAt}
 use Rattle.rules.specs.Answer.{After, Given}
 use Rattle.powercut.specs.Steps.{Step, barrier, commitSteps, stepPool}
-use Rattle.powercut.specs.Commit.{nextPhase, stepAnswer}
+use Rattle.powercut.specs.Commit.{isCommitting, nextPhase, placeIn, stepAnswer}
 use Rattle.answers.specs.declared.Answer.the-variants.{Done, Started}
 use Rattle.answers.specs.Meaning.{answerOf}
 use Rattle.actions.specs.declared.Action.{Action}
@@ -17,6 +20,8 @@ use Rattle.record.specs.declared.Phase.the-variants.{Closed, Committing}
 use Rattle.record.specs.declared.Record.{Record}
 use Rattle.record.specs.Meaning.{given, inPhase}
 use Rattle.commit.specs.declared.Stepped.{Stepped}
+use Rattle.commit.specs.declared.Turn.{Turn}
+use Rattle.commit.specs.declared.Turn.the-variants.{From, Refused}
 
 -- The answer, with pool, staging and record afterwards.
 abbrev pub afterOf : Stepped → List ℕ → List ℕ → After
@@ -39,3 +44,12 @@ madeOf sh g k =
       answer = stepAnswer k (length xs) x;
       left = record { pool = stepPool sh x (g .pool); staging = g .staging; txn = record { count = g .txn .count; phase = nextPhase k (length xs) } };
     }
+
+-- The tests of a step on a record that was judged: 29, 21.
+unfoldable pub turnTests : Shape → List ℕ → Phase → List Test
+turnTests sh p f = when (not (isCommitting f)) 29 ∷ when (eqb (placeIn f) 0 && not (unsealed sh p)) 21 ∷ []
+
+-- Where the commit goes on, unless a refusal is given.
+unfoldable pub turnOf : Option ℕ → ℕ → Turn
+turnOf none k = From k
+turnOf (some n) k = Refused n

@@ -1,4 +1,5 @@
-// Commit by steps (01, "Commit, cut, recovery"): what its start and each step answer, the record then, and the step made.
+// Commit by steps (01, "Commit, cut, recovery"): what its start and each step answer, the record then, and the step made; and all steps up to
+// the next barrier.
 ghost use mathlib.Core.Path.{_≡_};
 ghost use mathlib.Core.Bool.{not, _&&_};
 ghost use Prim.Native.Nat.{_+_, _<_};
@@ -8,12 +9,13 @@ ghost use Rattle.rules.specs.Test.{first};
 ghost use Rattle.rules.specs.Seals.{unsealed};
 ghost use Rattle.rules.specs.Staging.{commitLength};
 ghost use Rattle.rules.specs.Calls.{recordTests};
-ghost use Rattle.powercut.specs.Commit.{commitStep};
+ghost use Rattle.powercut.specs.Commit.{commitOn, commitStep, placeIn};
+ghost use Rattle.powercut.specs.Advance.{commitBarrier, commitMade};
 ghost use Rattle.layout.specs.Meaning.{answer, InRange, Shaped, shapeOf};
 ghost use Rattle.layout.specs.declared.Opened.the-variants.{Good};
 ghost use Rattle.actions.specs.Actions.{Ready};
-ghost use Rattle.record.specs.Meaning.{given};
-ghost use Rattle.commit.specs.Stepped.{afterOf, madeOf, startedWith, steppedTo};
+ghost use Rattle.record.specs.Meaning.{given, phaseOf};
+ghost use Rattle.commit.specs.Stepped.{afterOf, madeOf, startedWith, steppedTo, turnOf, turnTests};
 use actions::Action;
 use answers::Answer;
 use layout::Shape;
@@ -24,6 +26,12 @@ use record::Record;
 pub struct Stepped {
     pub answer: Answer,
     pub txn: Record,
+}
+
+// Where a commit goes on: from step k + 1, or refused.
+enum Turn {
+    Refused(u8),
+    From(usize),
 }
 
 // The start of a commit: done at once where there are no entries.
@@ -101,29 +109,59 @@ fn make(s: Shape, pool: &mut [u8], staging: &[u8], txn: Record, k: usize) -> Ste
     told(txn, action, k + 1, record::steps(n))
 }
 
+// Makes the steps of the commit of the entries in `staging` from step k + 1 on, up to the next barrier.
+fn make_part(s: Shape, pool: &mut [u8], staging: &[u8], txn: Record, k: usize) -> Stepped
+    requires { ⌜ InRange (shapeOf s) × Ready (shapeOf s) (now pool) (now staging) 0 (txn .count) 0 × (k < commitLength (txn .count)) × (shapeIn (now pool) ≡ shapeOf s) ⌝ }
+    ensures { λ r. ⌜ afterOf r (now (pool .exit)) (now (staging .entry)) ≡ commitMade (given (now (pool .entry)) (now (staging .entry)) txn) k (commitBarrier (txn .count) k) ⌝ }
+{
+    let n = txn.count;
+    let made = actions::parts::commit_part(s, pool, staging, n, k);
+    told(txn, Action::Barrier, made, record::steps(n))
+}
+
+// Where the commit in this phase goes on, or the first of refusals 29, 21.
+fn judge(s: Shape, pool: &[u8], phase: Phase) -> Turn
+    requires { ⌜ Shaped (now pool) (shapeOf s) ⌝ }
+    ensures { λ r. ⌜ r ≡ turnOf (first (turnTests (shapeOf s) (now (pool .entry)) (phaseOf phase))) (placeIn (phaseOf phase)) ⌝ }
+{
+    match phase {
+        Phase::Open => Turn::Refused(29),
+        Phase::Closed => Turn::Refused(29),
+        Phase::Committing(k) => {
+            if sealed(s, pool, k) {
+                return Turn::Refused(21);
+            }
+            Turn::From(k)
+        }
+    }
+}
+
 // Makes the next step of a commit whose record was judged, or the first of refusals 29, 21.
 pub fn step(s: Shape, pool: &mut [u8], staging: &[u8], txn: Record) -> Stepped
     requires { ⌜ answer (first (recordTests (given (now pool) (now staging) txn))) (shapeIn (now pool)) ≡ Good s ⌝ }
     ensures { λ r. ⌜ afterOf r (now (pool .exit)) (now (staging .entry)) ≡ commitStep (given (now (pool .entry)) (now (staging .entry)) txn) ⌝ }
 {
     let phase = txn.phase;
-    match phase {
-        Phase::Open => Stepped {
-            answer: Answer::Refused(29),
+    match judge(s, pool, phase) {
+        Turn::Refused(n) => Stepped {
+            answer: Answer::Refused(n),
             txn,
         },
-        Phase::Closed => Stepped {
-            answer: Answer::Refused(29),
+        Turn::From(k) => make(s, pool, staging, txn, k),
+    }
+}
+
+// The same with all steps up to and with the next barrier.
+pub fn advance(s: Shape, pool: &mut [u8], staging: &[u8], txn: Record) -> Stepped
+    requires { ⌜ answer (first (recordTests (given (now pool) (now staging) txn))) (shapeIn (now pool)) ≡ Good s ⌝ }
+    ensures { λ r. ⌜ afterOf r (now (pool .exit)) (now (staging .entry)) ≡ commitOn (given (now (pool .entry)) (now (staging .entry)) txn) ⌝ }
+{
+    let phase = txn.phase;
+    match judge(s, pool, phase) {
+        Turn::Refused(n) => Stepped {
+            answer: Answer::Refused(n),
             txn,
         },
-        Phase::Committing(k) => {
-            if sealed(s, pool, k) {
-                return Stepped {
-                    answer: Answer::Refused(21),
-                    txn,
-                };
-            }
-            make(s, pool, staging, txn, k)
-        }
+        Turn::From(k) => make_part(s, pool, staging, txn, k),
     }
 }

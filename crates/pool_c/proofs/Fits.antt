@@ -20,7 +20,7 @@ use Rattle.rules.proofs.Bool.{or-false, split}
 use Rattle.rules.proofs.Test.{first-passed, passed-left, passed-right}
 use Rattle.powercut.specs.Log.{countIn, valid}
 use Rattle.powercut.specs.Steps.{Remedy, clear, neither, nothing, remedy, replay}
-use Rattle.powercut.specs.Commit.{commitList, commitStart, commitStep, commitTests, nextPhase, placeIn, startPhase}
+use Rattle.powercut.specs.Commit.{commitList, commitMore, commitOn, commitStart, commitStep, commitTests, isStored, nextPhase, placeIn, startPhase}
 use Rattle.powercut.specs.Recovery.{Recovery, RecoveryAfter, concludeRecovery, doneSteps, nextProgress, recoveryList, recoveryStart, recoveryStep, startRecovery}
 use Rattle.powercut.proofs.RunMatches.{again-inside}
 use Rattle.pool_c.specs.Meaning.{Fits64, phaseOut, progressOut, workOut}
@@ -75,6 +75,15 @@ unfolding commitStep commitTests recordTests
 step-fits g h = conclude-fits g _ _ h (λ e.
     let p = passed-right (openTests (g .pool)) _ (passed-left (recordTests g) _ (first-passed _ e)) in
     next-fits (placeIn (g .txn .phase)) (length (commitList g)) (possible-few (shapeIn (g .pool)) g (p .1 .0)))
+
+more-fits : (m : ℕ) (x : After) → Fits64 (phaseOut (x .left .txn .phase)) → Fits64 (phaseOut (commitMore m x .left .txn .phase))
+unfolding commitMore
+more-fits zero x h = h
+more-fits (suc m) x h = split (isStored (x .answer)) (λ e. rw e (more-fits m (commitStep (x .left)) (step-fits (x .left) h))) (λ e. rw e h)
+
+pub advance-fits : Keeps commitOn
+unfolding commitOn
+advance-fits g h = more-fits _ (commitStep g) (step-fits g h)
 
 -- ---- a recovery
 

@@ -3,7 +3,7 @@ ghost use mathlib.Core.Path.{_≡_};
 ghost use Rattle.rules.specs.Staging.{fresh};
 ghost use Rattle.rules.specs.Plan.{allocate as Allocate, release, write as Write};
 ghost use Rattle.rules.specs.Calls.{call};
-ghost use Rattle.powercut.specs.Commit.{commitStart, commitStep};
+ghost use Rattle.powercut.specs.Commit.{commitOn, commitStart, commitStep};
 ghost use Rattle.answers.specs.Meaning.{answerOf};
 ghost use Rattle.record.specs.Meaning.{phaseOf};
 ghost use Rattle.transaction.specs.Meaning.{transactionOf};
@@ -152,4 +152,16 @@ pub extern "C" fn pool_commit_step(
     ensures { λ r. ⌜ (r, now (pool .exit), now (staging .entry)) ≡ afterOut (commitStep (givenIn transaction (now (pool .entry)) (now (staging .entry)))) ⌝ }
 {
     encoded(decoded(transaction).step(pool, staging))
+}
+
+// Makes the commit's steps up to and with the next barrier.
+#[no_mangle]
+pub extern "C" fn pool_commit_advance(
+    transaction: Transaction,
+    pool: &mut [u8],
+    staging: &[u8],
+) -> Reply
+    ensures { λ r. ⌜ (r, now (pool .exit), now (staging .entry)) ≡ afterOut (commitOn (givenIn transaction (now (pool .entry)) (now (staging .entry)))) ⌝ }
+{
+    encoded(decoded(transaction).advance(pool, staging))
 }

@@ -14,7 +14,8 @@ use Rattle.rules.specs.Answer.{After, Given, conclude}
 use Rattle.rules.specs.Plan.{Call, Plan, plan}
 use Rattle.rules.specs.Calls.{call, callTests, entriesIn, liveTests, recordTests, staged}
 use Rattle.rules.proofs.Test.{Passed, first-left, first-passed, first-right, not-not, passed-first, passed-left, passed-right}
-use Rattle.powercut.specs.Commit.{commitStart, commitStep, commitTests, startAnswer, startPhase}
+use Rattle.powercut.specs.Commit.{commitOn, commitStart, commitStep, commitTests, startAnswer, startPhase}
+use Rattle.powercut.proofs.CommitOn.{commit-advances}
 use Rattle.layout.specs.declared.Shape.{Shape}
 use Rattle.layout.specs.declared.Opened.{Opened}
 use Rattle.layout.specs.declared.Opened.the-variants as Opening
@@ -59,6 +60,15 @@ module _ (g : Given) where
   pub step-meets : (us : List Test) × (x : After) × Meets g (recordTests g) us x (commitStep g)
   unfolding commitStep commitTests
   step-meets = (_, _, record { concluded = refl })
+
+  -- a call up to the next barrier is refused as its first step is
+  pub advance-meets : (us : List Test) × (x : After) × Meets g (recordTests g) us x (commitOn g)
+  unfolding commitTests
+  advance-meets = (_, commitOn g, record { concluded = told (first (commitTests g)) refl })
+    where
+      told : (o : Option ℕ) → first (commitTests g) ≡ o → commitOn g ≡ conclude g o (commitOn g)
+      told none e = unfold conclude in refl
+      told (some i) e = unfold conclude commitStep in commit-advances g .refuses i (rw e)
 
   -- ---- a record that passed, and is open
 

@@ -5,7 +5,7 @@ ghost use mathlib.Core.Path.{_≡_};
 ghost use Rattle.rules.specs.Staging.{fresh};
 ghost use Rattle.rules.specs.Plan.{allocate as Allocate, release, write as Write};
 ghost use Rattle.rules.specs.Calls.{call};
-ghost use Rattle.powercut.specs.Commit.{commitStart, commitStep};
+ghost use Rattle.powercut.specs.Commit.{commitOn, commitStart, commitStep};
 ghost use Rattle.transaction.specs.Meaning.{afterOf, givenOf, refusedBack, stagedBack, steppedBack, transactionOf};
 use answers::Answer;
 use answers::Staged;
@@ -145,6 +145,16 @@ impl Transaction {
         match record::judge(pool, staging, txn) {
             Opened::Refused(n) => refused(txn, n),
             Opened::Good(s) => stepped(commit::step(s, pool, staging, txn)),
+        }
+    }
+    // Makes all steps of the commit up to and with the next barrier.
+    pub fn advance(self, pool: &mut [u8], staging: &[u8]) -> Reply
+        ensures { λ r. ⌜ afterOf r (now (pool .exit)) (now (staging .entry)) ≡ commitOn (givenOf self (now (pool .entry)) (now (staging .entry))) ⌝ }
+    {
+        let txn = self.txn;
+        match record::judge(pool, staging, txn) {
+            Opened::Refused(n) => refused(txn, n),
+            Opened::Good(s) => stepped(commit::advance(s, pool, staging, txn)),
         }
     }
 }

@@ -3,7 +3,8 @@ use Prim.Native.Nat.{_+_, _*_, _-_}
 use mathlib.Core.Path.{refl}
 use native.Mathlib.Omega.{arith}
 use Rattle.layout.specs.Meaning.{shapeOf}
-use Rattle.actions.proofs.PartMade.{commit-by-log, commit-by-redo, commit-by-seals, ready-kept, redo-within}
+use Rattle.powercut.proofs.Parts.{redo-high}
+use Rattle.actions.proofs.PartMade.{commit-by-log, commit-by-redo, commit-by-seals, ready-kept}
 use borrow.Author.Needs.{needs}
 use Rattle.actions.proofs.parts.commit_part.Statement.{statement}
 use Rattle.actions.proofs.parts.commit_part.Tie as tie
@@ -21,7 +22,7 @@ redo-part-requires : tie.Need-redo-part-requires
 redo-part-requires c κs = let a = c .before .before .before .before .before in (a .pre .0, ready-kept (a .pre .1) refl (omega arith), omega arith)
 
 add-result-4 : tie.Need-add-result-4
-add-result-4 c = let a = c .before .before .before .before .before .before .before .before in let l = c .before .before .before .before .if2 .left in let w = redo-within (a .args .n) (a .args .k - (4 * a .args .n + 4)) (omega arith) in let e = c .before .before .redo-part .ensures .number in omega arith
+add-result-4 c = let a = c .before .before .before .before .before .before .before .before in let w = redo-high (a .args .n) (a .args .k - (4 * a .args .n + 4)) in let e = c .before .before .redo-part .ensures .number in omega arith
 
 returns-3 : tie.Need-returns-3
 returns-3 c = let a = c .before .before .before .before .before .before .before .before in commit-by-redo (shapeOf (a .args .s)) _ _ _ (a .pre .2) (c .before .before .before .before .before .if1 .left) (c .before .before .before .before .if2 .left) (a .pre .3) (c .before .before .redo-part .ensures)

@@ -2,12 +2,12 @@
 -- Assumes nothing.
 use Prim.Native.Nat.{ℕ, suc, _+_, _*_, _<_, _≤_}
 use mathlib.Core.Path.{_≡_, refl, sym, ap, _∙_}
-use mathlib.Core.Bool.{Bool, true, false, not, _||_}
-use mathlib.Core.Option.{Option, none, some}
+use mathlib.Core.Bool.{Bool, true, false, not}
+use mathlib.Core.Option.{none, some}
 use mathlib.Core.List.{List, [], _∷_}
 use native.Mathlib.Numerals.{add-one}
 use native.Mathlib.Omega.{arith}
-use lib.Dec.{eqb, leb, ltb}
+use lib.Dec.{eqb, leb}
 use lib.ListN.{length, getD}
 use borrow.Author.Tests.{le-ltb, leb-false, leb-true, lt-ltb, ltb-false}
 use Rattle.rules.specs.Words.{word}
@@ -18,10 +18,10 @@ use Rattle.rules.specs.Answer.{refused}
 use Rattle.rules.proofs.Bool.{split}
 use Rattle.rules.proofs.Test.{first-left, first-right}
 use Rattle.powercut.specs.Log.{Log, countIn, logAt, valid}
-use Rattle.powercut.specs.Steps.{Remedy, Step, barrier, clear, neither, nothing, recoverySteps, replay, stepPool, stepsMade}
+use Rattle.powercut.specs.Steps.{Remedy, Step, barrier, clear, neither, nothing, recoverySteps, replay, stepPool}
 use Rattle.powercut.specs.Commit.{madeAnswer, stepAnswer}
 use Rattle.powercut.specs.Recovery as Paper
-use Rattle.powercut.specs.Advance.{recoveryMade}
+use Rattle.powercut.specs.Advance.{recoveryBarrier, recoveryMade}
 use Rattle.powercut.proofs.StepCount.{clear-count, recovery-few, replay-count}
 use Rattle.powercut.proofs.Logs.{judged-kept}
 use Rattle.powercut.proofs.RecoveryOn.{recovery-advances, recovery-on}
@@ -38,6 +38,7 @@ use Rattle.answers.specs.Meaning as Answers
 use Rattle.actions.specs.declared.Action.{Action}
 use Rattle.actions.specs.declared.Action.the-variants.{Barrier}
 use Rattle.actions.specs.Actions as Steps
+use Rattle.actions.specs.Parts.{PartMade}
 use Rattle.actions.proofs.Steps.{clear-step, computed-answer, computed-pool, ready-log, replay-step, told-answer}
 use Rattle.recovery.specs.declared.Remedy as Code
 use Rattle.recovery.specs.declared.Remedy.the-variants.{Clear}
@@ -97,6 +98,9 @@ module _ (s : Shape) (p : List ℕ) (k : ℕ) (w : Remedy) (h : impossibleAt (sh
   unfolding Paper.isRecovering Paper.doneSteps
   possible = recovery-possible (shapeOf s) p (record { work = w; phase = Paper.recovering k }) refl h
 
+  pub none-to-do : recoverySteps (shapeOf s) p w ≡ [] → ⊥
+  none-to-do e = let m = possible in let n = ap length e in omega arith
+
   pub place-few : k < 259
   place-few = let m = possible in let n = recovery-few (shapeOf s) p w (m .count) in omega arith
 
@@ -108,11 +112,17 @@ module _ (s : Shape) (p : List ℕ) (k : ℕ) (w : Remedy) (h : impossibleAt (sh
     go nothing = unfold recoverySteps in refl
     go neither = unfold recoverySteps in refl
 
+  pub clear-inside : w ≡ clear → k < 3
+  clear-inside e = let m = possible .place in let c = clear-count (shapeOf s) p in let d = ap (λ (v : Remedy). length (recoverySteps (shapeOf s) p v)) e in omega arith
+
   -- the log at b is replayed, with the count n
   module _ (b n : ℕ) (l : Log) (q : b ≡ logAt (shapeOf s) l) (e : w ≡ replay l n) where
     pub replay-few : n ≤ entryLimit
     unfolding Paper.countAbove
     replay-few = ltb-false entryLimit n (rw e at (possible .count))
+
+    pub replay-inside : k < 2 * n + 5
+    replay-inside = let m = possible .place in let c = replay-count (shapeOf s) p l n in let d = ap (λ (v : Remedy). length (recoverySteps (shapeOf s) p v)) e in omega arith
 
     pub replay-ready : Shaped p (shapeOf s) → LogAt (shapeOf s) b → Steps.Ready (shapeOf s) p p (b + 16) n k
     unfolding Paper.logLost
@@ -195,6 +205,11 @@ module _ (s : Shape) (p : List ℕ) (v : Recovery) where
         let x : Step = getD (recoverySteps (shapeOf s) p (remedyOf (v .work))) k barrier in
         rw (none-refused, g .0, e, f, add-one k, computed-pool (shapeOf s) p x _ a (length p) c refl)
         (replied-leaves (stepPool (shapeOf s) x p) x a k (told-answer (suc k) a ∙ computed-answer (shapeOf s) p x _ a (length p) (suc k) c refl))
+
+    pub advance-made : (q : List ℕ) (m : ℕ) (r : Reply) → PartMade (shapeOf s) (recoverySteps (shapeOf s) p (remedyOf (v .work))) k (recoveryBarrier (remedyOf (v .work)) k) p q m
+        → r ≡ replied (v .work) Barrier m (stepCount (remedyOf (v .work))) → afterOf r q ≡ advanced (shapeOf s) p (recoveryOf v)
+    unfolding advanced Paper.concludeRecovery Paper.doneSteps madeAnswer
+    advance-made q m r c e = rw (none-refused, g .0, e, c .number, c .bytes) (replied-leaves _ barrier Barrier (recoveryBarrier (remedyOf (v .work)) k) refl)
 
 -- ---- a call, where the pool opens
 

@@ -2,14 +2,17 @@
 // inputs, and its contract is one equation with the definition of that call, which gives the answer, the record and every byte of the pool.
 ghost use mathlib.Core.Path.{_≡_};
 ghost use mathlib.Core.Bool.{false};
-ghost use Prim.Native.Nat.{_≤_};
+ghost use Prim.Native.Nat.{_+_, _*_, _≤_, _<_};
 ghost use lib.ListN.{getD, length};
 ghost use Rattle.rules.specs.Shape.{entryLimit};
-ghost use Rattle.powercut.specs.Steps.{barrier, recoverySteps, remedy};
+ghost use Rattle.powercut.specs.Steps.{barrier, recoverySteps, redo, remedy};
 ghost use Rattle.powercut.specs.Recovery.{countAbove, recoveryOn, recoveryStart, recoveryStep};
+ghost use Rattle.powercut.specs.Advance.{recoveryBarrier, redoBarrier};
 ghost use Rattle.layout.specs.Meaning.{Shaped, shapeOf};
 ghost use Rattle.log.specs.Places.{LogAt};
-ghost use Rattle.actions.specs.Actions.{Computed, actionOf};
+ghost use Rattle.log.specs.Targets.{read};
+ghost use Rattle.actions.specs.Actions.{Computed, Ready, actionOf};
+ghost use Rattle.actions.specs.Parts.{PartMade};
 ghost use Rattle.recovery.specs.Meaning.{afterOf, recoveryOf, remedyOf};
 ghost use Rattle.recovery.specs.Advanced.{FoundIs, ReplayImpossible, advanced, begun, impossibleAt, lostAt, replied, stepCount, stepped};
 use actions::Action;
@@ -77,6 +80,19 @@ impl Recovery {
                 recovery: self,
             },
             Opened::Good(s) => step_in(self, s, pool),
+        }
+    }
+
+    // Makes all steps up to the next barrier, or the first of refusals 2, 3, 4, 2, 10, 29.
+    pub fn advance(self, pool: &mut [u8]) -> Reply
+        ensures { λ r. ⌜ afterOf r (now (pool .exit)) ≡ recoveryOn (now (pool .entry)) (recoveryOf self) ⌝ }
+    {
+        match layout::open(pool) {
+            Opened::Refused(n) => Reply {
+                answer: Answer::Refused(n),
+                recovery: self,
+            },
+            Opened::Good(s) => advance_in(self, s, pool),
         }
     }
 }
@@ -159,6 +175,24 @@ fn step_in(recovery: Recovery, s: Shape, pool: &mut [u8]) -> Reply
             let action = action_at(work, k, s, pool);
             actions::apply(pool, action);
             told(work, action, k + 1)
+        }
+    }
+}
+
+// All steps up to the next barrier on a pool that opens: the first of refusals 10, 29, or the steps made.
+fn advance_in(recovery: Recovery, s: Shape, pool: &mut [u8]) -> Reply
+    requires { ⌜ Shaped (now pool) (shapeOf s) ⌝ }
+    ensures { λ r. ⌜ afterOf r (now (pool .exit)) ≡ advanced (shapeOf s) (now (pool .entry)) (recoveryOf recovery) ⌝ }
+{
+    match judge(recovery, s, pool) {
+        Found::Refused(n) => Reply {
+            answer: Answer::Refused(n),
+            recovery,
+        },
+        Found::At(k) => {
+            let work = recovery.work;
+            let made = make_part(work, k, s, pool);
+            told(work, Action::Barrier, made)
         }
     }
 }
@@ -253,6 +287,42 @@ fn action_at(work: Remedy, k: usize, s: Shape, pool: &[u8]) -> Action
         Remedy::Nothing => Action::Barrier,
         Remedy::Neither => Action::Barrier,
     }
+}
+
+// The steps of a recovery that is possible from step k + 1 on, up to the next barrier: that barrier's number.
+fn make_part(work: Remedy, k: usize, s: Shape, pool: &mut [u8]) -> usize
+    requires { ⌜ Shaped (now pool) (shapeOf s) × (impossibleAt (shapeOf s) (now pool) (remedyOf work) k ≡ false) ⌝ }
+    ensures { λ r. ⌜ PartMade (shapeOf s) (recoverySteps (shapeOf s) (now (pool .entry)) (remedyOf work)) k (recoveryBarrier (remedyOf work) k) (now (pool .entry)) (now (pool .exit)) r ⌝ }
+{
+    match work {
+        Remedy::ReplayA(n) => replay_part(s, pool, s.log_a(), n, k),
+        Remedy::ReplayB(n) => replay_part(s, pool, s.log_b(), n, k),
+        Remedy::Clear => actions::parts::clear_part(s, pool, k),
+        Remedy::Nothing => 0,
+        Remedy::Neither => 0,
+    }
+}
+
+// The same of the replay of the log at `b` with the count `n`. Data and parity are stored from a copy of the log's entries; seals are
+// cleared without reading them.
+fn replay_part(s: Shape, pool: &mut [u8], b: usize, n: usize, k: usize) -> usize
+    requires { ⌜ Shaped (now pool) (shapeOf s) × Ready (shapeOf s) (now pool) (now pool) (b + 16) n k × (k < 2 * n + 5) ⌝ }
+    ensures { λ r. ⌜ PartMade (shapeOf s) (redo (shapeOf s) (read (now (pool .entry)) (b + 16) n)) k (redoBarrier n k) (now (pool .entry)) (now (pool .exit)) r ⌝ }
+{
+    if 2 * n + 2 <= k {
+        return 2 * n + 2 + actions::parts::clear_part(s, pool, k - (2 * n + 2));
+    }
+    let mut entries = [0u8; 2032];
+    copy_entries(&mut entries, pool, b + 16, n);
+    actions::parts::redo_part(s, pool, &entries, 0, n, k)
+}
+
+// The `n` entries at `at` of the pool, copied to the start of `to`.
+fn copy_entries(to: &mut [u8], pool: &[u8], at: usize, n: usize)
+    requires { ⌜ (at + 16 * n ≤ length (now pool)) × (16 * n ≤ length (now to)) ⌝ }
+    ensures { λ _. ⌜ read (now (to .exit)) 0 n ≡ read (now (pool .entry)) at n ⌝ }
+{
+    pages::store(to, 0, &pool[at..at + 16 * n]);
 }
 
 // How many steps a recovery has.

@@ -1,5 +1,5 @@
 -- `recovery::action_at` meets its contract. Assumes nothing.
-use mathlib.Core.Path.{ap, refl}
+use mathlib.Core.Path.{ap}
 use Rattle.powercut.specs.Log.{fromA, fromB}
 use Rattle.powercut.specs.Steps.{recoverySteps}
 use Rattle.log.proofs.Places.{at-log-a, at-log-b}

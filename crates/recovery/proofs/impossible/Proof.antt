@@ -1,5 +1,5 @@
 -- `recovery::impossible` meets its contract. Assumes nothing.
-use mathlib.Core.Path.{_∙_, refl, sym, ap}
+use mathlib.Core.Path.{refl}
 use Rattle.powercut.specs.Log.{fromA, fromB}
 use Rattle.powercut.specs.Steps.{recoverySteps}
 use Rattle.log.proofs.Places.{at-log-a, at-log-b}

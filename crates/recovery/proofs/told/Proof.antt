@@ -1,5 +1,4 @@
 -- `recovery::told` meets its contract. Assumes nothing.
-use mathlib.Core.Path.{_∙_}
 use borrow.Author.Tests.{eq-eqb, ne-eqb}
 use Rattle.recovery.specs.Advanced.{replied}
 use borrow.Author.Needs.{needs}

@@ -108,8 +108,8 @@ module _ (s : Shape) (r : InRange (shapeOf s)) (p₀ src : List ℕ) (n k₀ : �
       unfolding commitAction
       log-next e f = along-next a l (let m = commit-long (shapeOf s) src n some in omega arith) (e ∙ computed-pool (shapeOf s) p (getD listed i barrier) _ x (length p) log-made refl) f (omega arith)
 
-    pub log-end : {m : ℕ} → 4 * n ≤ i → m ≡ 4 * n + 1 → PartMade (shapeOf s) listed k₀ (4 * n) p₀ p m
-    log-end l e =
+    pub log-end : 4 * n ≤ i → PartMade (shapeOf s) listed k₀ (4 * n) p₀ p (4 * n + 1)
+    log-end l =
         let m = commit-long (shapeOf s) src n some in
         let c = length-read src 0 n in
         along-end a l (omega arith) (ap (λ (x : ℕ). getD listed x barrier) {x = 4 * n} {y = 4 * length (read src 0 n) + 0} (omega arith) ∙ commit-seal (shapeOf s) (read src 0 n) 0 (omega arith)) (omega arith)
@@ -132,8 +132,8 @@ module _ (sh : PoolShape) (src : List ℕ) (at n : ℕ) where
         along-next a l (omega arith)
         (e ∙ ap (λ y. applied y p) w ∙ ap (λ y. stepPool sh y p) (sym (redo-data sh (read src at n) i (omega arith) ∙ ap store (entry-at src at n i l)))) f (omega arith)
 
-    pub data-end : {r : ℕ} → Along sh redoOf n k₀ p₀ i p → n ≤ i → r ≡ n + 1 → PartMade sh redoOf k₀ n p₀ p r
-    data-end a l e =
+    pub data-end : Along sh redoOf n k₀ p₀ i p → n ≤ i → PartMade sh redoOf k₀ n p₀ p (n + 1)
+    data-end a l =
         let m = redo-long in
         along-end a l (omega arith) (ap (λ (x : ℕ). getD redoOf x barrier) (sym (length-read src at n)) ∙ redo-barrier sh (read src at n)) (omega arith)
 
@@ -146,8 +146,8 @@ module _ (s : Shape) (r : InRange (shapeOf s)) (p₀ src : List ℕ) (at n k₀ 
   data-inside {i} {p} {x} h a l e = redo-data-out s r p src at n i (ready-kept h (a .kept) (a .from)) x l e .inside
 
   module _ (h : Ready (shapeOf s) p₀ src at n (n + 1 + k₀)) {i : ℕ} {p : List ℕ} (a : Along (shapeOf s) stepsOf (2 * n + 1) (n + 1 + k₀) p₀ (n + 1 + i) p) where
-    pub parity-end : {m : ℕ} → n ≤ i → m ≡ 2 * n + 2 → PartMade (shapeOf s) stepsOf (n + 1 + k₀) (2 * n + 1) p₀ p m
-    parity-end l e =
+    pub parity-end : n ≤ i → PartMade (shapeOf s) stepsOf (n + 1 + k₀) (2 * n + 1) p₀ p (2 * n + 2)
+    parity-end l =
         let m = redo-long (shapeOf s) src at n in
         let c = length-read src at n in
         along-end a (omega arith) (omega arith)

@@ -28,7 +28,7 @@ loop-again : tie.Need-loop-again Inv-loop μ-loop
 loop-again c = (search needs, c .before .before .apply .kept .0 ∙ c .before .before .before .before .before .before .loop .inv .1, λ sh. data-next sh _ _ _ (c .before .before .before .before .before .before .loop .inv .2 sh) (omega arith) (c .before .before .before .before .data-action .ensures) (c .before .before .apply .ensures) (c .before .before .apply .kept .0))
 
 returns : tie.Need-returns Inv-loop μ-loop
-returns c = let a = c .before .before .before .before in data-end (shapeOf (a .args .s)) _ _ _ (c .before .loop .inv .2 (shapeOf (a .args .s))) (omega arith) (omega arith)
+returns c = let a = c .before .before .before .before in data-end (shapeOf (a .args .s)) _ _ _ (c .before .loop .inv .2 (shapeOf (a .args .s))) (omega arith)
 
 pub data-part-spec : {M : Type 1} → statement M
 data-part-spec =

@@ -26,7 +26,7 @@ loop-again : tie.Need-loop-again Inv-loop μ-loop
 loop-again c = let a = c .before .before .before .before .before .before .before .before .before in (c .before .before .before .before .before .before .loop .inv .0, log-next (a .args .s) (a .pre .0) _ _ _ _ (a .pre .1) (a .pre .2) (c .before .before .before .before .before .before .loop .inv .1) (omega arith) (c .before .before .before .before .log-action .ensures) (c .before .before .apply .ensures) (c .before .before .apply .kept .0))
 
 returns : tie.Need-returns Inv-loop μ-loop
-returns c = let a = c .before .before .before .before in log-end (a .args .s) (a .pre .0) _ _ _ _ (a .pre .1) (a .pre .2) (c .before .loop .inv .1) (omega arith) (omega arith)
+returns c = let a = c .before .before .before .before in log-end (a .args .s) (a .pre .0) _ _ _ _ (a .pre .1) (a .pre .2) (c .before .loop .inv .1) (omega arith)
 
 pub log-part-spec : {M : Type 1} → statement M
 log-part-spec =

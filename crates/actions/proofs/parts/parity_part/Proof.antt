@@ -23,7 +23,7 @@ loop-again : tie.Need-loop-again Inv-loop μ-loop
 loop-again c = let a = c .before .before .before .before .before .before .before .before .before .before .before in let l = c .before .before .before .before .before .before .before .before .loop in (search needs, parity-next (a .args .s) (a .pre .0) _ _ _ _ _ (a .pre .1) (l .inv .1) (omega arith) (c .before .before .before .before .before .before .load64 .ensures) (c .before .before .before .before .parity-action .ensures) (c .before .before .apply .ensures) (c .before .before .apply .kept .0))
 
 returns : tie.Need-returns Inv-loop μ-loop
-returns c = let a = c .before .before .before .before in parity-end (a .args .s) (a .pre .0) _ _ _ _ _ (a .pre .1) (c .before .loop .inv .1) (omega arith) (omega arith)
+returns c = let a = c .before .before .before .before in parity-end (a .args .s) (a .pre .0) _ _ _ _ _ (a .pre .1) (c .before .loop .inv .1) (omega arith)
 
 pub parity-part-spec : {M : Type 1} → statement M
 parity-part-spec =

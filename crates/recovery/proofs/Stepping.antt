@@ -11,7 +11,7 @@ use lib.Dec.{eqb, leb}
 use lib.ListN.{length, getD}
 use borrow.Author.Tests.{le-ltb, leb-false, leb-true, lt-ltb, ltb-false}
 use Rattle.rules.specs.Words.{word}
-use Rattle.rules.specs.Shape.{entryLimit}
+use Rattle.rules.specs.Shape.{entryLimit, zonesAt}
 use Rattle.rules.specs.Test.{first, when}
 use Rattle.rules.specs.Header.{openTests, shapeIn}
 use Rattle.rules.specs.Answer.{refused}
@@ -29,11 +29,12 @@ use Rattle.powercut.proofs.RunMatches.{Possible, recovery-possible}
 use Rattle.words.specs.Loaded.{Loaded}
 use Rattle.layout.specs.declared.Shape.{Shape}
 use Rattle.layout.specs.declared.Opened.the-variants as Opening
-use Rattle.layout.specs.Meaning.{Shaped, opened, shapeOf}
+use Rattle.layout.specs.Meaning.{InRange, Shaped, opened, shapeOf}
+use Rattle.layout.proofs.Range.{shape-good}
 use Rattle.layout.proofs.Opening.{open-good, open-passed, open-refused}
 use Rattle.log.specs.Places.{LogAt}
 use Rattle.log.proofs.Targets.{loaded-word}
-use Rattle.log.proofs.Places.{log-room}
+use Rattle.log.proofs.Places.{log-end, log-room}
 use Rattle.answers.specs.Meaning as Answers
 use Rattle.actions.specs.declared.Action.{Action}
 use Rattle.actions.specs.declared.Action.the-variants.{Barrier}
@@ -129,6 +130,10 @@ module _ (s : Shape) (p : List ℕ) (k : ℕ) (w : Remedy) (h : impossibleAt (sh
     replay-ready g a =
         ready-log (shapeOf s) p (g .size) b n k (log-room s p g b a) replay-few
         (λ i. rw q (judged-kept k (2 * n + 2) (valid (shapeOf s) p (logAt (shapeOf s) l)) (countIn (word p (logAt (shapeOf s) l))) n (rw e at (possible .log)) (omega arith)))
+
+    -- its entries lie before the zones
+    pub replay-low : InRange (shapeOf s) → b + 16 + 16 * n ≤ zonesAt (shapeOf s)
+    replay-low r = omega (arith, q, replay-few, log-end (shapeOf s) (shape-good s r) l)
 
     pub replay-action : (m : ℕ) (a : Action) → Steps.Computed (Steps.redoAction (shapeOf s) p p (b + 16) n k) m a → Steps.Computed (Steps.actionOf (shapeOf s) p (getD (recoverySteps (shapeOf s) p w) k barrier)) m a
     replay-action m a c = record {

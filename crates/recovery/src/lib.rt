@@ -1,17 +1,17 @@
-// Recovery by steps (01, "Commit, cut, recovery"): its record, its start, one step, and all steps up to the next barrier. No call has a `requires`: each answers for all
-// inputs, and its contract is one equation with the definition of that call, which gives the answer, the record and every byte of the pool.
+// Recovery by steps (01, "Commit, cut, recovery"): its record, its start, one step, and all steps up to the next barrier. No call has a
+// `requires`: each answers for all inputs, and its contract is one equation with the definition of that call, which gives the answer, the record and
+// every byte of the pool.
 ghost use mathlib.Core.Path.{_≡_};
 ghost use mathlib.Core.Bool.{false};
-ghost use Prim.Native.Nat.{_+_, _*_, _≤_, _<_};
+ghost use Prim.Native.Nat.{_≤_};
 ghost use lib.ListN.{getD, length};
 ghost use Rattle.rules.specs.Shape.{entryLimit};
-ghost use Rattle.powercut.specs.Steps.{barrier, recoverySteps, redo, remedy};
+ghost use Rattle.powercut.specs.Steps.{barrier, recoverySteps, remedy};
 ghost use Rattle.powercut.specs.Recovery.{countAbove, recoveryOn, recoveryStart, recoveryStep};
-ghost use Rattle.powercut.specs.Advance.{recoveryBarrier, redoBarrier};
+ghost use Rattle.powercut.specs.Advance.{recoveryBarrier};
 ghost use Rattle.layout.specs.Meaning.{Shaped, shapeOf};
 ghost use Rattle.log.specs.Places.{LogAt};
-ghost use Rattle.log.specs.Targets.{read};
-ghost use Rattle.actions.specs.Actions.{Computed, Ready, actionOf};
+ghost use Rattle.actions.specs.Actions.{Computed, actionOf};
 ghost use Rattle.actions.specs.Parts.{PartMade};
 ghost use Rattle.recovery.specs.Meaning.{afterOf, recoveryOf, remedyOf};
 ghost use Rattle.recovery.specs.Advanced.{FoundIs, ReplayImpossible, advanced, begun, impossibleAt, lostAt, replied, stepCount, stepped};
@@ -295,34 +295,12 @@ fn make_part(work: Remedy, k: usize, s: Shape, pool: &mut [u8]) -> usize
     ensures { λ r. ⌜ PartMade (shapeOf s) (recoverySteps (shapeOf s) (now (pool .entry)) (remedyOf work)) k (recoveryBarrier (remedyOf work) k) (now (pool .entry)) (now (pool .exit)) r ⌝ }
 {
     match work {
-        Remedy::ReplayA(n) => replay_part(s, pool, s.log_a(), n, k),
-        Remedy::ReplayB(n) => replay_part(s, pool, s.log_b(), n, k),
+        Remedy::ReplayA(n) => actions::replays::replay_part(s, pool, s.log_a() + 16, n, k),
+        Remedy::ReplayB(n) => actions::replays::replay_part(s, pool, s.log_b() + 16, n, k),
         Remedy::Clear => actions::parts::clear_part(s, pool, k),
         Remedy::Nothing => 0,
         Remedy::Neither => 0,
     }
-}
-
-// The same of the replay of the log at `b` with the count `n`. Data and parity are stored from a copy of the log's entries; seals are
-// cleared without reading them.
-fn replay_part(s: Shape, pool: &mut [u8], b: usize, n: usize, k: usize) -> usize
-    requires { ⌜ Shaped (now pool) (shapeOf s) × Ready (shapeOf s) (now pool) (now pool) (b + 16) n k × (k < 2 * n + 5) ⌝ }
-    ensures { λ r. ⌜ PartMade (shapeOf s) (redo (shapeOf s) (read (now (pool .entry)) (b + 16) n)) k (redoBarrier n k) (now (pool .entry)) (now (pool .exit)) r ⌝ }
-{
-    if 2 * n + 2 <= k {
-        return 2 * n + 2 + actions::parts::clear_part(s, pool, k - (2 * n + 2));
-    }
-    let mut entries = [0u8; 2032];
-    copy_entries(&mut entries, pool, b + 16, n);
-    actions::parts::redo_part(s, pool, &entries, 0, n, k)
-}
-
-// The `n` entries at `at` of the pool, copied to the start of `to`.
-fn copy_entries(to: &mut [u8], pool: &[u8], at: usize, n: usize)
-    requires { ⌜ (at + 16 * n ≤ length (now pool)) × (16 * n ≤ length (now to)) ⌝ }
-    ensures { λ _. ⌜ read (now (to .exit)) 0 n ≡ read (now (pool .entry)) at n ⌝ }
-{
-    pages::store(to, 0, &pool[at..at + 16 * n]);
 }
 
 // How many steps a recovery has.

@@ -5,17 +5,17 @@ use Rattle.powercut.specs.Steps.{recoverySteps}
 use Rattle.layout.specs.Meaning.{shapeOf}
 use Rattle.log.proofs.Places.{at-log-a, at-log-b}
 use Rattle.recovery.specs.Meaning.{remedyOf}
-use Rattle.recovery.proofs.Stepping.{clear-inside, none-to-do, replay-inside, replay-ready}
+use Rattle.recovery.proofs.Stepping.{clear-inside, none-to-do, replay-inside, replay-low, replay-ready}
 use Rattle.recovery.proofs.Parts.{clear-part, replay-part}
 use borrow.Author.Needs.{needs}
 use Rattle.recovery.proofs.make_part.Statement.{statement}
 use Rattle.recovery.proofs.make_part.Tie as tie
 
 replay-part-requires : tie.Need-replay-part-requires
-replay-part-requires c κs = let a = c .before .before .before .before .before .before in let e = ap remedyOf (c .before .before .before .work .given .1) in (a .pre .0, replay-ready (a .args .s) _ _ _ (a .pre .1) _ _ fromA (c .log-a .ensures) e (a .pre .0) (at-log-a (c .log-a .ensures)), replay-inside (a .args .s) _ _ _ (a .pre .1) _ _ fromA (c .log-a .ensures) e)
+replay-part-requires c κs = let a = c .before .before .before .before .before .before in let e = ap remedyOf (c .before .before .before .work .given .1) in (a .pre .0 .range, replay-ready (a .args .s) _ _ _ (a .pre .1) _ _ fromA (c .log-a .ensures) e (a .pre .0) (at-log-a (c .log-a .ensures)), replay-low (a .args .s) _ _ _ (a .pre .1) _ _ fromA (c .log-a .ensures) e (a .pre .0 .range), replay-inside (a .args .s) _ _ _ (a .pre .1) _ _ fromA (c .log-a .ensures) e)
 
 replay-part-requires-2 : tie.Need-replay-part-requires-2
-replay-part-requires-2 c κs = let a = c .before .before .before .before .before .before in let e = ap remedyOf (c .before .before .before .work2 .given .1) in (a .pre .0, replay-ready (a .args .s) _ _ _ (a .pre .1) _ _ fromB (c .log-b .ensures) e (a .pre .0) (at-log-b (c .log-b .ensures)), replay-inside (a .args .s) _ _ _ (a .pre .1) _ _ fromB (c .log-b .ensures) e)
+replay-part-requires-2 c κs = let a = c .before .before .before .before .before .before in let e = ap remedyOf (c .before .before .before .work2 .given .1) in (a .pre .0 .range, replay-ready (a .args .s) _ _ _ (a .pre .1) _ _ fromB (c .log-b .ensures) e (a .pre .0) (at-log-b (c .log-b .ensures)), replay-low (a .args .s) _ _ _ (a .pre .1) _ _ fromB (c .log-b .ensures) e (a .pre .0 .range), replay-inside (a .args .s) _ _ _ (a .pre .1) _ _ fromB (c .log-b .ensures) e)
 
 clear-part-requires : tie.Need-clear-part-requires
 clear-part-requires c κs = let a = c .before .before .before .before in (a .pre .0, clear-inside (a .args .s) _ _ _ (a .pre .1) (ap remedyOf (c .before .enum-told .given .1)))
@@ -43,9 +43,11 @@ make-part-spec =
     (tie.spec
     (λ c. search needs)
     (λ c κs. search needs)
+    (λ c. search needs)
     replay-part-requires
     (λ c. search needs)
     (λ c κs. search needs)
+    (λ c. search needs)
     replay-part-requires-2
     (λ c. search needs)
     clear-part-requires

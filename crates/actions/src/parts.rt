@@ -64,7 +64,7 @@ fn parity_part(s: Shape, pool: &mut [u8], src: &[u8], at: usize, n: usize, k: us
 }
 
 // Parts 3 to 5 for the n entries at `at` of `src`, from step k + 1 on, up to the next barrier: that barrier's number.
-pub fn redo_part(s: Shape, pool: &mut [u8], src: &[u8], at: usize, n: usize, k: usize) -> usize
+fn redo_part(s: Shape, pool: &mut [u8], src: &[u8], at: usize, n: usize, k: usize) -> usize
     requires { ⌜ (InRange (shapeOf s)) × (Ready (shapeOf s) (now pool) (now src) at n k) × (k < 2 * n + 5) ⌝ }
     ensures { λ r. ⌜ PartMade (shapeOf s) (redo (shapeOf s) (read (now (src .entry)) at n)) k (redoBarrier n k) (now (pool .entry)) (now (pool .exit)) r ⌝ }
 {

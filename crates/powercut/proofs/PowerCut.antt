@@ -79,7 +79,7 @@ accepted-recovery p o h =
     let t : first (openTests p) ≡ none = passed-first (openTests p) o in
     (rw t (recovery-not-refused p (remedy (shapeIn p) p) h), rw t)
 
-accepted-again : (p : List ℕ) (r : Recovery) → Passed (recoveryTests p r) → Accepted (recoveryStep p r .answer) × (recoveryStep p r .pool ≡ stepPool (shapeIn p) (recoveryNext p r) p)
+pub accepted-again : (p : List ℕ) (r : Recovery) → Passed (recoveryTests p r) → Accepted (recoveryStep p r .answer) × (recoveryStep p r .pool ≡ stepPool (shapeIn p) (recoveryNext p r) p)
 unfolding recoveryStep concludeRecovery
 accepted-again p r o =
     let e = passed-first (recoveryTests p r) o in

@@ -3,6 +3,7 @@
 use mathlib.Core.Path.{_≡_, refl, sym, ap, ap₂, _∙_, subst}
 use mathlib.Core.Logic.{_⊎_, inl, inr}
 use mathlib.Core.Bool.{true, false}
+use mathlib.Core.Option.{Option, none, some}
 use mathlib.Core.List.{List, [], _∷_, _++_, map}
 use Prim.Native.Nat.{ℕ, zero, suc, _+_, _-_, _*_, _≤_, _<_}
 use native.Mathlib.Nat.{not-suc-le-zero}
@@ -11,11 +12,12 @@ use lib.ListN.{length, getD}
 use borrow.Author.Tests.{le-ltb, lt-ltb, ltb-false, ne-eqb}
 use Rattle.rules.specs.Words.{word}
 use Rattle.rules.specs.Shape.{Shape, entryLimit, entrySize, logA, logB, logHead, zonesAt}
-use Rattle.rules.specs.Header.{shapeIn}
+use Rattle.rules.specs.Test.{first}
+use Rattle.rules.specs.Header.{openTests, shapeIn}
 use Rattle.rules.specs.Staging.{Store, entriesAt, goodTargets}
 use Rattle.rules.specs.Answer.{isRefused, refused}
 use Rattle.rules.proofs.Bool.{split}
-use Rattle.rules.proofs.Test.{Passed, passed-first}
+use Rattle.rules.proofs.Test.{Passed, first-passed, passed-first}
 use Rattle.rules.proofs.Shape.{Good}
 use Rattle.rules.proofs.Words.{put-out}
 use Rattle.rules.proofs.Header.{SameHeaders, passed-good, shape-same, tests-same}
@@ -23,14 +25,14 @@ use Rattle.rules.proofs.Transaction.{entries-count}
 use Rattle.powercut.specs.Log.{Log, countIn, fromA, fromB, logAt, logEntries, valid}
 use Rattle.powercut.specs.Steps.{Remedy, Step, barrier, clear, neither, nothing, recoverySteps, redo, replay, seals, stepPool, stepsMade, store}
 use Rattle.powercut.specs.Commit.{isStored, stepAnswer}
-use Rattle.powercut.specs.Recovery.{Progress, Recovery, RecoveryAfter, concludeRecovery, countAbove, doneSteps, finished, isRecovering, logLost, nextProgress, recovering, recoveryList, recoveryMore, recoveryNext, recoveryOn, recoveryStep}
+use Rattle.powercut.specs.Recovery.{Progress, Recovery, RecoveryAfter, concludeRecovery, countAbove, doneSteps, finished, isRecovering, logLost, nextProgress, recovering, recoveryList, recoveryMore, recoveryNext, recoveryOn, recoveryStep, recoveryTests}
 use Rattle.powercut.specs.WholeRun.{Accepted}
 use Rattle.powercut.specs.Requirements.{KeepsRecovery}
 use Rattle.powercut.specs.Advance.{RecoveryAdvances, between, recoveryBarrier, recoveryMade, redoBarrier}
 use Rattle.powercut.proofs.StepCount.{redo-tail, replay-count}
 use Rattle.powercut.proofs.Logs.{judged-kept, log-targets}
-use Rattle.powercut.proofs.RunMatches.{Possible, again-none, again-possible}
-use Rattle.powercut.proofs.PowerCut.{again-passed, answer-not-refused, log-past, log-there, progress-on}
+use Rattle.powercut.proofs.RunMatches.{Possible, again-none, again-possible, done-is}
+use Rattle.powercut.proofs.PowerCut.{accepted-again, again-passed, answer-not-refused, log-past, log-there, progress-on}
 use Rattle.powercut.proofs.Refusals.{recovery-step-refused, refused-is}
 use Rattle.powercut.proofs.Between.{made-here, made-next}
 use Rattle.powercut.proofs.Parts.{RedoPart, clears, data-words, answer-barrier, answer-stored, isStore, parity-words, redo-ends, redo-high, redo-low, redo-part, redo-stays, redo-store}
@@ -185,30 +187,36 @@ module _ (w : Remedy) where
   abbrev at : ℕ → Recovery
   at k = record { work = w; phase = recovering k }
 
-  step-is : (p : List ℕ) (k : ℕ) → Possible p (at k) → recoveryStep p (at k) ≡ record {
+  -- with k steps made, the next one is not refused
+  record Going (p : List ℕ) (k : ℕ) : Type 0 where
+    opens : Passed (openTests p)
+    possible : Possible (shapeIn p) p w k
+
+  step-is : (p : List ℕ) (k : ℕ) → Going p k → recoveryStep p (at k) ≡ record {
     answer = stepAnswer k (length (recoveryList p (at k))) (getD (recoveryList p (at k)) k barrier);
     pool = stepPool (shapeIn p) (getD (recoveryList p (at k)) k barrier) p;
     recovery = record { work = w; phase = nextProgress k (length (recoveryList p (at k))) };
   }
-  unfolding recoveryStep concludeRecovery recoveryNext doneSteps
-  step-is p k h = rw (passed-first _ (again-passed p (at k) k (h .opens) refl (h .count) (h .place) (h .log)))
+  unfolding recoveryStep concludeRecovery recoveryNext recoveryList doneSteps
+  step-is p k h = rw (passed-first _ (again-passed p (at k) k (h .opens) refl (h .possible .count) (h .possible .place) (h .possible .log)))
 
   -- after a store the next step is possible, of the same list
   record After (q p : List ℕ) (k : ℕ) : Type 0 where
-    possible : Possible q (at (suc k))
+    going : Going q (suc k)
     shape : shapeIn q ≡ shapeIn p
     list : recoveryList q (at (suc k)) ≡ recoveryList p (at k)
 
-  after : (p : List ℕ) (k : ℕ) → Possible p (at k) → k < recoveryBarrier w k → After (stepPool (shapeIn p) (getD (recoveryList p (at k)) k barrier) p) p k
-  unfolding recoveryList doneSteps isRecovering
+  after : (p : List ℕ) (k : ℕ) → Going p k → k < recoveryBarrier w k → After (stepPool (shapeIn p) (getD (recoveryList p (at k)) k barrier) p) p k
+  unfolding recoveryList
   after p k h i =
       record {
-        possible = record {
+        going = record {
           opens = subst Passed (sym (tests-same q p heads)) (h .opens);
-          count = h .count;
-          recovers = refl;
-          place = let e = part-of sh p w k (h .place) .high in rw same-list (omega arith);
-          log = ap (λ (x : Shape). logLost x q w (suc k)) same-shape ∙ kept .log;
+          possible = record {
+            count = h .possible .count;
+            place = let e = part-of sh p w k (h .possible .place) .high in rw same-list (omega arith);
+            log = ap (λ (x : Shape). logLost x q w (suc k)) same-shape ∙ kept .log;
+          };
         };
         shape = same-shape;
         list = same-list;
@@ -221,7 +229,7 @@ module _ (w : Remedy) where
       q = stepPool sh (getD (recoverySteps sh p w) k barrier) p
 
       kept : Kept sh q p w k
-      kept = store-keeps sh (passed-good p (h .opens)) p w k (h .count) (h .log) i
+      kept = store-keeps sh (passed-good p (h .opens)) p w k (h .possible .count) (h .possible .log) i
 
       heads : SameHeaders q p
       heads = headers-untouched p q (h .opens) (kept .front)
@@ -236,7 +244,7 @@ module _ (w : Remedy) where
   abbrev left : ℕ → List Step → List ℕ → RecoveryAfter
   left b xs q = record { answer = stepAnswer b (length xs) barrier; pool = q; recovery = record { work = w; phase = nextProgress b (length xs) } }
 
-  module _ (p : List ℕ) (k : ℕ) (h : Possible p (at k)) where
+  module _ (p : List ℕ) (k : ℕ) (h : Going p k) where
     abbrev sh : Shape
     sh = shapeIn p
 
@@ -247,8 +255,8 @@ module _ (w : Remedy) where
     q = stepPool sh (getD xs k barrier) p
 
     place : k < length xs
-    unfolding doneSteps
-    place = h .place
+    unfolding recoveryList
+    place = h .possible .place
 
     part : Part xs w k
     unfolding recoveryList
@@ -284,18 +292,19 @@ module _ (w : Remedy) where
           ∙ ap₂ (λ (s : Shape) (ys : List Step). left b ys (stepsMade s (between (suc k) (suc b) ys) q)) (a .shape) (a .list)
           ∙ ap (left b xs) (sym (made-next sh k (suc b) xs p (omega arith) place))
 
-  goes : (d : ℕ) (p : List ℕ) (k m : ℕ) → Possible p (at k) → k + d ≡ recoveryBarrier w k → d ≤ m → recoveryMore m (recoveryStep p (at k)) ≡ recoveryMade p (at k) k (recoveryBarrier w k)
+  goes : (d : ℕ) (p : List ℕ) (k m : ℕ) → Going p k → k + d ≡ recoveryBarrier w k → d ≤ m → recoveryMore m (recoveryStep p (at k)) ≡ recoveryMade p (at k) k (recoveryBarrier w k)
   goes zero p k m h e l = let i : k ≡ recoveryBarrier w k = omega arith in ends p k h m i ∙ ap (recoveryMade p (at k) k) i
   goes (suc d) p k zero h e l = absurd (omega arith)
   goes (suc d) p k (suc m) h e l =
       let i : k < recoveryBarrier w k = omega arith in
       let s = part p k h .stays i in
-      on p k h i m ∙ goes d (q p k h) (suc k) m (after p k h i .possible) (omega arith) (omega arith) ∙ made-on p k h i
+      on p k h i m ∙ goes d (q p k h) (suc k) m (after p k h i .going) (omega arith) (omega arith) ∙ made-on p k h i
 
   makes-part : (p : List ℕ) (k : ℕ) → Accepted (recoveryStep p (at k) .answer) → recoveryOn p (at k) ≡ recoveryMade p (at k) k (recoveryBarrier w k)
   unfolding recoveryOn doneSteps
   makes-part p k a =
-      let h = again-possible p (at k) (again-none p (at k) a) in
+      let g = again-possible p (at k) (again-none p (at k) a) in
+      let h : Going p k = record { opens = g .0; possible = g .2 } in
       let c = part p k h in
       goes (recoveryBarrier w k - k) p k (length (recoveryList p (at k)) - suc k) h (omega arith) (omega arith)
 
@@ -318,7 +327,7 @@ recovery-advances p r = record { refuses = refuses; makes = makes }
 -- ---- accepted and refused calls
 
 pub recovery-place : (p : List ℕ) (r : Recovery) → Accepted (recoveryStep p r .answer) → (k : ℕ) × (r .phase ≡ recovering k)
-recovery-place p r f = go (r .phase) (again-possible p r (again-none p r f) .recovers)
+recovery-place p r f = go (r .phase) (again-possible p r (again-none p r f) .1)
   where
     go : (x : Progress) → isRecovering x ≡ true → (k : ℕ) × (x ≡ recovering k)
     go (recovering k) h = (k, refl)
@@ -349,3 +358,18 @@ recovery-on-refused p r x = split (isRefused (recoveryStep p r .answer))
     let b = made-accepted p r (w .0) (recoveryBarrier (r .work) (w .0)) in
     let z : _≡_ {A = ℕ} 0 1 = cc in
     absurd (omega arith))
+
+-- THE SAME AS ONE EQUATION: the tests of a step, then all steps of the part
+pub recovery-on : (p : List ℕ) (r : Recovery)
+    → recoveryOn p r ≡ concludeRecovery p r (first (recoveryTests p r)) (recoveryMade p r (doneSteps (r .phase)) (recoveryBarrier (r .work) (doneSteps (r .phase))))
+recovery-on p r = go (first (recoveryTests p r)) refl
+  where
+    left : ℕ → RecoveryAfter
+    left k = recoveryMade p r k (recoveryBarrier (r .work) k)
+
+    go : (o : Option ℕ) → first (recoveryTests p r) ≡ o → recoveryOn p r ≡ concludeRecovery p r o (left (doneSteps (r .phase)))
+    go (some n) e = unfold concludeRecovery in recovery-advances p r .refuses n (unfold recoveryStep concludeRecovery in rw e)
+    go none e =
+        let a = accepted-again p r (first-passed (recoveryTests p r) e) .0 in
+        let w = recovery-place p r a in
+        unfold concludeRecovery in recovery-advances p r .makes (w .0) (w .1) a ∙ ap left (sym (done-is (r .phase) (w .0) (w .1)))

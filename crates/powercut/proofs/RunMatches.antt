@@ -70,31 +70,34 @@ pub again-none : (p : List ℕ) (r : Recovery) → Accepted (recoveryStep p r .a
 unfolding recoveryStep
 again-none p r f = accepted-recovery-none p r _ _ f
 
--- the record is possible
-pub record Possible (p : List ℕ) (r : Recovery) : Type 0 where
-  pub opens : Passed (openTests p)
-  pub count : countAbove (r .work) ≡ false
-  pub recovers : isRecovering (r .phase) ≡ true
-  pub place : doneSteps (r .phase) < length (recoveryList p r)
-  pub log : logLost (shapeIn p) p (r .work) (doneSteps (r .phase)) ≡ false
+-- with k steps made, a recovery is possible
+pub record Possible (sh : Shape) (p : List ℕ) (w : Remedy) (k : ℕ) : Type 0 where
+  pub count : countAbove w ≡ false
+  pub place : k < length (recoverySteps sh p w)
+  pub log : logLost sh p w k ≡ false
 
-pub again-possible : (p : List ℕ) (r : Recovery) → first (recoveryTests p r) ≡ none → Possible p r
-unfolding recoveryTests impossibleRecovery recoveryList
-again-possible p r e =
+pub recovery-possible : (sh : Shape) (p : List ℕ) (r : Recovery) → isRecovering (r .phase) ≡ true → impossibleRecovery sh p r ≡ false → Possible sh p (r .work) (doneSteps (r .phase))
+unfolding impossibleRecovery
+recovery-possible sh p r i e =
     let k : ℕ = doneSteps (r .phase) in
-    let n : ℕ = length (recoverySteps (shapeIn p) p (r .work)) in
+    let n : ℕ = length (recoverySteps sh p (r .work)) in
+    let a = or-false (countAbove (r .work)) _ e in
+    let b : (true && (not (ltb k n) || logLost sh p (r .work) k)) ≡ false = rw i at (a .1) in
+    let c = or-false (not (ltb k n)) (logLost sh p (r .work) k) b in
+    record { count = a .0; place = ltb-true k n (not-not (ltb k n) (c .0)); log = c .1 }
+
+pub again-possible : (p : List ℕ) (r : Recovery) → first (recoveryTests p r) ≡ none → Passed (openTests p) × (isRecovering (r .phase) ≡ true) × Possible (shapeIn p) p (r .work) (doneSteps (r .phase))
+unfolding recoveryTests
+again-possible p r e =
     let t = first-passed _ e in
     let q = passed-right (openTests p) _ t in
-    let a = or-false (countAbove (r .work)) _ (q .0) in
     let i = not-not (isRecovering (r .phase)) (q .1 .0) in
-    let b : (true && (not (ltb k n) || logLost (shapeIn p) p (r .work) k)) ≡ false = rw i at (a .1) in
-    let c = or-false (not (ltb k n)) (logLost (shapeIn p) p (r .work) k) b in
-    record { opens = passed-left (openTests p) _ t; count = a .0; recovers = i; place = ltb-true k n (not-not (ltb k n) (c .0)); log = c .1 }
+    (passed-left (openTests p) _ t, i, recovery-possible (shapeIn p) p r i (q .0))
 
 -- the step is one of its list, which has at most 259
 pub again-inside : (p : List ℕ) (r : Recovery) → first (recoveryTests p r) ≡ none → (doneSteps (r .phase) < length (recoveryList p r)) × (length (recoveryList p r) ≤ 259)
 unfolding recoveryList
-again-inside p r e = let q = again-possible p r e in (q .place, recovery-few (shapeIn p) p (r .work) (q .count))
+again-inside p r e = let q = again-possible p r e .2 in (q .place, recovery-few (shapeIn p) p (r .work) (q .count))
 
 -- what the record is then
 pub start-left : (g : Given) → first (recordTests g ++ liveTests g) ≡ none → commitStart g .left .txn ≡ record { count = g .txn .count; phase = startPhase (g .txn .count) }

@@ -1,45 +1,55 @@
--- The ways out of a recovery's step: the log lost or kept, the step that comes next, the reply. Assumes nothing.
+-- The ways out of a recovery's calls: the log lost or kept, what the record allows, the step that comes next, the part made, the reply.
+-- Assumes nothing.
 use Prim.Native.Nat.{ℕ, suc, _+_, _*_, _<_, _≤_}
-use mathlib.Core.Path.{_≡_, refl, ap, _∙_}
-use mathlib.Core.Bool.{Bool, true, false, not, _||_}
+use mathlib.Core.Path.{_≡_, refl, sym, ap, _∙_}
+use mathlib.Core.Bool.{Bool, true, false, not}
+use mathlib.Core.Option.{none, some}
 use mathlib.Core.List.{List, [], _∷_}
 use native.Mathlib.Numerals.{add-one}
 use native.Mathlib.Omega.{arith}
-use lib.Dec.{eqb, ltb}
+use lib.Dec.{eqb, leb}
 use lib.ListN.{length, getD}
-use borrow.Author.Tests.{le-ltb, lt-ltb}
+use borrow.Author.Tests.{le-ltb, leb-false, leb-true, lt-ltb, ltb-false}
 use Rattle.rules.specs.Words.{word}
-use Rattle.rules.specs.Shape.{entryLimit}
+use Rattle.rules.specs.Shape.{entryLimit, zonesAt}
 use Rattle.rules.specs.Test.{first, when}
 use Rattle.rules.specs.Header.{openTests, shapeIn}
 use Rattle.rules.specs.Answer.{refused}
 use Rattle.rules.proofs.Bool.{split}
 use Rattle.rules.proofs.Test.{first-left, first-right}
 use Rattle.powercut.specs.Log.{Log, countIn, logAt, valid}
-use Rattle.powercut.specs.Steps.{Remedy, Step, barrier, clear, recoverySteps, replay, stepPool}
-use Rattle.powercut.specs.Commit.{stepAnswer}
+use Rattle.powercut.specs.Steps.{Remedy, Step, barrier, clear, neither, nothing, recoverySteps, replay, stepPool}
+use Rattle.powercut.specs.Commit.{madeAnswer, stepAnswer}
 use Rattle.powercut.specs.Recovery as Paper
-use Rattle.powercut.proofs.StepCount.{clear-count, replay-count}
+use Rattle.powercut.specs.Advance.{recoveryBarrier, recoveryMade}
+use Rattle.powercut.proofs.StepCount.{clear-count, recovery-few, replay-count}
 use Rattle.powercut.proofs.Logs.{judged-kept}
+use Rattle.powercut.proofs.RecoveryOn.{recovery-advances, recovery-on}
+use Rattle.powercut.proofs.RunMatches.{Possible, recovery-possible}
 use Rattle.words.specs.Loaded.{Loaded}
 use Rattle.layout.specs.declared.Shape.{Shape}
 use Rattle.layout.specs.declared.Opened.the-variants as Opening
-use Rattle.layout.specs.Meaning.{Shaped, opened, shapeOf}
+use Rattle.layout.specs.Meaning.{InRange, Shaped, opened, shapeOf}
+use Rattle.layout.proofs.Range.{shape-good}
 use Rattle.layout.proofs.Opening.{open-good, open-passed, open-refused}
 use Rattle.log.specs.Places.{LogAt}
 use Rattle.log.proofs.Targets.{loaded-word}
-use Rattle.log.proofs.Places.{log-room}
+use Rattle.log.proofs.Places.{log-end, log-room}
+use Rattle.answers.specs.Meaning as Answers
 use Rattle.actions.specs.declared.Action.{Action}
+use Rattle.actions.specs.declared.Action.the-variants.{Barrier}
 use Rattle.actions.specs.Actions as Steps
+use Rattle.actions.specs.Parts.{PartMade}
 use Rattle.actions.proofs.Steps.{clear-step, computed-answer, computed-pool, ready-log, replay-step, told-answer}
 use Rattle.recovery.specs.declared.Remedy as Code
+use Rattle.recovery.specs.declared.Remedy.the-variants.{Clear}
 use Rattle.recovery.specs.declared.Progress.the-variants.{Finished, Recovering}
 use Rattle.recovery.specs.declared.Recovery.{Recovery}
 use Rattle.recovery.specs.declared.Reply.{Reply}
-use Rattle.recovery.specs.declared.Next.{Next}
-use Rattle.recovery.specs.declared.Next.the-variants.{Impossible, Make}
-use Rattle.recovery.specs.Meaning.{afterOf, recoveryOf, remedyOf}
-use Rattle.recovery.specs.Advanced.{Makes, NextIs, advanced, impossibleAt, lostAt, replied}
+use Rattle.recovery.specs.declared.Found.{Found}
+use Rattle.recovery.specs.declared.Found.the-variants.{At, Refused}
+use Rattle.recovery.specs.Meaning.{afterOf, progressOf, recoveryOf, remedyOf}
+use Rattle.recovery.specs.Advanced.{FoundIs, advanced, impossibleAt, leaves, lostAt, replied, stepCount, stepped, workTests}
 
 -- ---- the log, while data or parity is stored
 
@@ -56,124 +66,175 @@ module _ (s : Shape) (p : List ℕ) (b n k : ℕ) where
   unfolding lostAt
   lost-count x w c h e t l f = rw (lt-ltb k (2 * n + 2) h, ← e, t, ← (loaded-word l), ← f)
 
-  lost-kept : lostAt (shapeOf s) p b n k ≡ false → k < 2 * n + 1 → (valid (shapeOf s) p b ≡ true) × (countIn (word p b) ≡ n)
-  unfolding lostAt
-  lost-kept e h = judged-kept k (2 * n + 2) (valid (shapeOf s) p b) (countIn (word p b)) n e (omega arith)
+-- ---- whether a recovery is impossible
 
--- ---- a place past its list
+module _ (s : Shape) (p : List ℕ) (k : ℕ) where
+  place-past : (w : Remedy) → length (recoverySteps (shapeOf s) p w) ≤ k → true ≡ impossibleAt (shapeOf s) p w k
+  unfolding Paper.impossibleRecovery Paper.isRecovering Paper.doneSteps
+  place-past w h = rw (le-ltb k (length (recoverySteps (shapeOf s) p w)) h) (split (Paper.countAbove w) (λ e. rw e) (λ e. rw e))
 
-place-past : (s : Shape) (p : List ℕ) (k : ℕ) (w : Remedy) → length (recoverySteps (shapeOf s) p w) ≤ k → impossibleAt (shapeOf s) p w k ≡ true
-unfolding Paper.impossibleRecovery Paper.isRecovering Paper.doneSteps
-place-past s p k w h = rw (le-ltb k (length (recoverySteps (shapeOf s) p w)) h) (split (Paper.countAbove w) (λ e. rw e) (λ e. rw e))
+  pub clear-impossible : (v : Code.Remedy) → v ≡ Clear → leb 3 k ≡ impossibleAt (shapeOf s) p (remedyOf v) k
+  unfolding Paper.impossibleRecovery Paper.countAbove Paper.isRecovering Paper.doneSteps Paper.logLost
+  clear-impossible v e = split (leb 3 k) (λ h. rw (h, e, clear-count (shapeOf s) p, le-ltb k 3 (leb-true 3 k h))) (λ h. rw (h, e, clear-count (shapeOf s) p, lt-ltb k 3 (leb-false 3 k h)))
 
--- ---- step k of a replay
+  pub empty-impossible : (v w : Code.Remedy) → v ≡ w → recoverySteps (shapeOf s) p (remedyOf w) ≡ [] → true ≡ impossibleAt (shapeOf s) p (remedyOf v) k
+  empty-impossible v w e h = rw e (place-past (remedyOf w) (rw h (omega arith)))
 
-module _ (s : Shape) (p : List ℕ) (b n k : ℕ) where
-  pub replay-ready : (x : Bool) → Shaped p (shapeOf s) → LogAt (shapeOf s) b → n ≤ entryLimit → x ≡ lostAt (shapeOf s) p b n k → x ≡ false → Steps.Ready (shapeOf s) p p (b + 16) n k
-  replay-ready x h l f e u =
-      ready-log (shapeOf s) p (h .size) b n k (log-room s p h b l) f (lost-kept s p b n k (rw e at u))
+  module _ (b n : ℕ) (l : Log) (q : b ≡ logAt (shapeOf s) l) where
+    pub replay-many : entryLimit < n → true ≡ impossibleAt (shapeOf s) p (replay l n) k
+    unfolding Paper.impossibleRecovery Paper.countAbove
+    replay-many h = rw (lt-ltb entryLimit n h)
 
-  module _ (l : Log) (q : b ≡ logAt (shapeOf s) l) where
-    impossible-replay : impossibleAt (shapeOf s) p (replay l n) k ≡ (ltb entryLimit n || (not (ltb k (2 * n + 5)) || lostAt (shapeOf s) p b n k))
+    pub replay-past : 2 * n + 5 ≤ k → true ≡ impossibleAt (shapeOf s) p (replay l n) k
+    replay-past h = place-past (replay l n) (rw (replay-count (shapeOf s) p l n) h)
+
+    pub replay-lost : (x : Bool) → n ≤ entryLimit → k < 2 * n + 5 → x ≡ lostAt (shapeOf s) p b n k → x ≡ impossibleAt (shapeOf s) p (replay l n) k
     unfolding Paper.impossibleRecovery Paper.countAbove Paper.isRecovering Paper.doneSteps Paper.logLost lostAt
-    impossible-replay = rw (replay-count (shapeOf s) p l n, q)
+    replay-lost x h g e = e ∙ rw (le-ltb entryLimit n h, replay-count (shapeOf s) p l n, lt-ltb k (2 * n + 5) g, q)
 
-    pub replay-many : entryLimit < n → impossibleAt (shapeOf s) p (replay l n) k ≡ true
-    replay-many h = impossible-replay ∙ rw (lt-ltb entryLimit n h)
+-- ---- what a recovery that is not impossible has
 
-    pub replay-past : 2 * n + 5 ≤ k → impossibleAt (shapeOf s) p (replay l n) k ≡ true
-    replay-past h = place-past s p k (replay l n) (rw (replay-count (shapeOf s) p l n) h)
+module _ (s : Shape) (p : List ℕ) (k : ℕ) (w : Remedy) (h : impossibleAt (shapeOf s) p w k ≡ false) where
+  pub possible : Possible (shapeOf s) p w k
+  unfolding Paper.isRecovering Paper.doneSteps
+  possible = recovery-possible (shapeOf s) p (record { work = w; phase = Paper.recovering k }) refl h
 
-    pub replay-lost : (x : Bool) → n ≤ entryLimit → k < 2 * n + 5 → x ≡ lostAt (shapeOf s) p b n k → x ≡ true → impossibleAt (shapeOf s) p (replay l n) k ≡ true
-    replay-lost x h g e t = impossible-replay ∙ rw (le-ltb entryLimit n h, lt-ltb k (2 * n + 5) g, ← e, t)
+  pub none-to-do : recoverySteps (shapeOf s) p w ≡ [] → ⊥
+  none-to-do e = let m = possible in let n = ap length e in omega arith
 
-    pub replay-made : (x : Bool) (a : Action) → n ≤ entryLimit → k < 2 * n + 5 → x ≡ lostAt (shapeOf s) p b n k → x ≡ false
-        → Steps.Computed (Steps.redoAction (shapeOf s) p p (b + 16) n k) (length p) a → Makes (shapeOf s) p (replay l n) k a (2 * n + 5)
-    replay-made x a h g e f c = record {
-      possible = impossible-replay ∙ rw (le-ltb entryLimit n h, lt-ltb k (2 * n + 5) g, ← e, f);
-      computed = record {
-        value = c .value ∙ ap (λ (z : ℕ). Steps.redoAction (shapeOf s) p p (z + 16) n k) q ∙ replay-step (shapeOf s) p l n k;
-        inside = c .inside;
-      };
-      count = rw (replay-count (shapeOf s) p l n);
-      below = g;
-      few = omega arith;
+  pub place-few : k < 259
+  place-few = let m = possible in let n = recovery-few (shapeOf s) p w (m .count) in omega arith
+
+  count-is : length (recoverySteps (shapeOf s) p w) ≡ stepCount w
+  count-is = go w where
+    go : (w : Remedy) → length (recoverySteps (shapeOf s) p w) ≡ stepCount w
+    go (replay l n) = replay-count (shapeOf s) p l n
+    go clear = clear-count (shapeOf s) p
+    go nothing = unfold recoverySteps in refl
+    go neither = unfold recoverySteps in refl
+
+  pub clear-inside : w ≡ clear → k < 3
+  clear-inside e = let m = possible .place in let c = clear-count (shapeOf s) p in let d = ap (λ (v : Remedy). length (recoverySteps (shapeOf s) p v)) e in omega arith
+
+  -- the log at b is replayed, with the count n
+  module _ (b n : ℕ) (l : Log) (q : b ≡ logAt (shapeOf s) l) (e : w ≡ replay l n) where
+    pub replay-few : n ≤ entryLimit
+    unfolding Paper.countAbove
+    replay-few = ltb-false entryLimit n (rw e at (possible .count))
+
+    pub replay-inside : k < 2 * n + 5
+    replay-inside = let m = possible .place in let c = replay-count (shapeOf s) p l n in let d = ap (λ (v : Remedy). length (recoverySteps (shapeOf s) p v)) e in omega arith
+
+    pub replay-ready : Shaped p (shapeOf s) → LogAt (shapeOf s) b → Steps.Ready (shapeOf s) p p (b + 16) n k
+    unfolding Paper.logLost
+    replay-ready g a =
+        ready-log (shapeOf s) p (g .size) b n k (log-room s p g b a) replay-few
+        (λ i. rw q (judged-kept k (2 * n + 2) (valid (shapeOf s) p (logAt (shapeOf s) l)) (countIn (word p (logAt (shapeOf s) l))) n (rw e at (possible .log)) (omega arith)))
+
+    -- its entries lie before the zones
+    pub replay-low : InRange (shapeOf s) → b + 16 + 16 * n ≤ zonesAt (shapeOf s)
+    replay-low r = omega (arith, q, replay-few, log-end (shapeOf s) (shape-good s r) l)
+
+    pub replay-action : (m : ℕ) (a : Action) → Steps.Computed (Steps.redoAction (shapeOf s) p p (b + 16) n k) m a → Steps.Computed (Steps.actionOf (shapeOf s) p (getD (recoverySteps (shapeOf s) p w) k barrier)) m a
+    replay-action m a c = record {
+      value = c .value ∙ ap (λ (z : ℕ). Steps.redoAction (shapeOf s) p p (z + 16) n k) q ∙ replay-step (shapeOf s) p l n k ∙ ap (λ (v : Remedy). Steps.actionOf (shapeOf s) p (getD (recoverySteps (shapeOf s) p v) k barrier)) (sym e);
+      inside = c .inside;
     }
 
--- ---- step k of clearing both seals, and where there is no step
-
-module _ (s : Shape) (p : List ℕ) (k : ℕ) where
-  pub clear-past : 3 ≤ k → impossibleAt (shapeOf s) p clear k ≡ true
-  clear-past h = place-past s p k clear (rw (clear-count (shapeOf s) p) h)
-
-  pub clear-made : (a : Action) → k < 3 → Steps.Computed (Steps.clearAction (shapeOf s) p k) (length p) a → Makes (shapeOf s) p clear k a 3
-  unfolding Paper.impossibleRecovery Paper.countAbove Paper.isRecovering Paper.doneSteps Paper.logLost
-  clear-made a h c = record {
-    possible = rw (clear-count (shapeOf s) p, lt-ltb k 3 h);
-    computed = record { value = c .value ∙ clear-step (shapeOf s) p k; inside = c .inside };
-    count = rw (clear-count (shapeOf s) p);
-    below = h;
-    few = omega arith;
+-- clearing both seals, and where there is no step
+module _ (s : Shape) (p : List ℕ) (k m : ℕ) (w : Remedy) where
+  pub clear-action : (a : Action) → w ≡ clear → Steps.Computed (Steps.clearAction (shapeOf s) p k) m a → Steps.Computed (Steps.actionOf (shapeOf s) p (getD (recoverySteps (shapeOf s) p w) k barrier)) m a
+  clear-action a e c = record {
+    value = c .value ∙ clear-step (shapeOf s) p k ∙ ap (λ (v : Remedy). Steps.actionOf (shapeOf s) p (getD (recoverySteps (shapeOf s) p v) k barrier)) (sym e);
+    inside = c .inside;
   }
 
-  pub empty-past : (w : Remedy) → recoverySteps (shapeOf s) p w ≡ [] → impossibleAt (shapeOf s) p w k ≡ true
-  empty-past w e = place-past s p k w (rw e (omega arith))
+  pub no-action : recoverySteps (shapeOf s) p w ≡ [] → Steps.Computed (Steps.actionOf (shapeOf s) p (getD (recoverySteps (shapeOf s) p w) k barrier)) m Barrier
+  no-action e = record { value = rw e; inside = tt }
 
--- ---- what the next step tells
+-- ---- what the record allows
 
-module _ (s : Shape) (p : List ℕ) (k : ℕ) where
-  pub next-of : {w v : Code.Remedy} (r : Next) → w ≡ v → NextIs (shapeOf s) p (remedyOf v) k r → NextIs (shapeOf s) p (remedyOf w) k r
-  next-of r e h = rw e h
+module _ (s : Shape) (p : List ℕ) (v : Recovery) where
+  pub found-many : (x : Bool) → v .phase ≡ Finished → x ≡ Paper.countAbove (remedyOf (v .work)) → x ≡ true → first (workTests (shapeOf s) p (recoveryOf v)) ≡ some 10
+  unfolding workTests first Paper.impossibleRecovery
+  found-many x e f h = rw (e, ← f, h)
 
-  pub next-made : (w : Remedy) (r : Next) {a : Action} {n : ℕ} → NextIs (shapeOf s) p w k r → r ≡ Make a n → Makes (shapeOf s) p w k a n
-  next-made w r h e = rw e at h
+  pub found-finished : (x : Bool) → v .phase ≡ Finished → x ≡ Paper.countAbove (remedyOf (v .work)) → x ≡ false → first (workTests (shapeOf s) p (recoveryOf v)) ≡ some 29
+  unfolding workTests first Paper.impossibleRecovery Paper.isRecovering
+  found-finished x e f h = rw (e, ← f, h)
 
-  pub next-none : (w : Remedy) (r : Next) → NextIs (shapeOf s) p w k r → r ≡ Impossible → impossibleAt (shapeOf s) p w k ≡ true
-  next-none w r h e = rw e at h
+  pub found-impossible : (k : ℕ) (x : Bool) → v .phase ≡ Recovering k → x ≡ impossibleAt (shapeOf s) p (remedyOf (v .work)) k → x ≡ true → first (workTests (shapeOf s) p (recoveryOf v)) ≡ some 10
+  unfolding workTests first
+  found-impossible k x e f h = rw (e, ← f, h)
 
--- ---- the reply
+  pub found-at : (k : ℕ) (x : Bool) → v .phase ≡ Recovering k → x ≡ impossibleAt (shapeOf s) p (remedyOf (v .work)) k → x ≡ false → FoundIs (shapeOf s) p (recoveryOf v) (At k)
+  found-at k x e f h = (ap progressOf e, sym f ∙ h)
 
-module _ (s : Shape) (p : List ℕ) where
-  replied-step : (w : Code.Remedy) (x : Step) (a : Action) (k n m : ℕ) → Steps.Computed (Steps.actionOf (shapeOf s) p x) m a
-      → afterOf (replied w a (k + 1) n) (Steps.applied a p)
-      ≡ record { answer = stepAnswer k n x; pool = stepPool (shapeOf s) x p; recovery = record { work = remedyOf w; phase = Paper.nextProgress k n } }
-  unfolding replied stepAnswer Paper.nextProgress
-  replied-step w x a k n m c =
-      rw (add-one k, computed-pool (shapeOf s) p x _ a m c refl) (split (eqb (suc k) n) (λ e. rw e)
-      (λ e. rw (e, told-answer (suc k) a, computed-answer (shapeOf s) p x _ a m (suc k) c refl)))
+  pub refused-found : {x : Found} {n : ℕ} → FoundIs (shapeOf s) p (recoveryOf v) x → x ≡ Refused n → first (workTests (shapeOf s) p (recoveryOf v)) ≡ some n
+  refused-found h e = rw e at h
 
-  module _ (v : Recovery) where
-    pub advance-many : (x : Bool) → v .phase ≡ Finished → x ≡ Paper.countAbove (remedyOf (v .work)) → x ≡ true
-        → record { answer = refused 10; pool = p; recovery = recoveryOf v } ≡ advanced (shapeOf s) p (recoveryOf v)
-    unfolding advanced Paper.concludeRecovery first Paper.impossibleRecovery Paper.isRecovering
-    advance-many x e f h = rw (e, ← f, h)
+  pub at-found : {x : Found} {k : ℕ} → FoundIs (shapeOf s) p (recoveryOf v) x → x ≡ At k → FoundIs (shapeOf s) p (recoveryOf v) (At k)
+  at-found h e = rw e at h
 
-    pub advance-finished : (x : Bool) → v .phase ≡ Finished → x ≡ Paper.countAbove (remedyOf (v .work)) → x ≡ false
-        → record { answer = refused 29; pool = p; recovery = recoveryOf v } ≡ advanced (shapeOf s) p (recoveryOf v)
-    unfolding advanced Paper.concludeRecovery first Paper.impossibleRecovery Paper.isRecovering
-    advance-finished x e f h = rw (e, ← f, h)
+  -- ---- the call
 
-    pub advance-impossible : (k : ℕ) → v .phase ≡ Recovering k → impossibleAt (shapeOf s) p (remedyOf (v .work)) k ≡ true
-        → record { answer = refused 10; pool = p; recovery = recoveryOf v } ≡ advanced (shapeOf s) p (recoveryOf v)
-    unfolding advanced Paper.concludeRecovery first
-    advance-impossible k e h = rw (e, h)
+  conclude-refused : (n : ℕ) (x : Paper.RecoveryAfter) → first (workTests (shapeOf s) p (recoveryOf v)) ≡ some n
+      → record { answer = refused n; pool = p; recovery = recoveryOf v } ≡ Paper.concludeRecovery p (recoveryOf v) (first (workTests (shapeOf s) p (recoveryOf v))) x
+  unfolding Paper.concludeRecovery
+  conclude-refused n x e = rw e
 
-    pub advance-made : (k n : ℕ) (a : Action) (q : List ℕ) (r : Reply) → v .phase ≡ Recovering k → Makes (shapeOf s) p (remedyOf (v .work)) k a n → q ≡ Steps.applied a p → r ≡ replied (v .work) a (k + 1) n
-        → afterOf r q ≡ advanced (shapeOf s) p (recoveryOf v)
-    unfolding advanced Paper.concludeRecovery first Paper.isRecovering Paper.doneSteps
-    advance-made k n a q r e m f g =
-        rw (e, m .possible, ← (m .count), f, g)
-        (replied-step (v .work) (getD (recoverySteps (shapeOf s) p (remedyOf (v .work))) k barrier) a k n (length p) (m .computed))
+  pub step-refusal : (n : ℕ) → first (workTests (shapeOf s) p (recoveryOf v)) ≡ some n → record { answer = refused n; pool = p; recovery = recoveryOf v } ≡ stepped (shapeOf s) p (recoveryOf v)
+  unfolding stepped
+  step-refusal n e = conclude-refused n _ e
 
--- ---- a step, where the pool opens
+  pub advance-refusal : (n : ℕ) → first (workTests (shapeOf s) p (recoveryOf v)) ≡ some n → record { answer = refused n; pool = p; recovery = recoveryOf v } ≡ advanced (shapeOf s) p (recoveryOf v)
+  unfolding advanced
+  advance-refusal n e = conclude-refused n _ e
+
+  -- it goes on from k steps made
+  module _ (k : ℕ) (g : FoundIs (shapeOf s) p (recoveryOf v) (At k)) where
+    none-refused : first (workTests (shapeOf s) p (recoveryOf v)) ≡ none
+    unfolding workTests first Paper.isRecovering
+    none-refused = rw (g .0, g .1)
+
+    replied-leaves : (q : List ℕ) (x : Step) (a : Action) (j : ℕ) → Answers.answerOf (Steps.toldOf (suc j) a) ≡ madeAnswer (suc j) x
+        → afterOf (replied (v .work) a (suc j) (stepCount (remedyOf (v .work)))) q ≡ leaves (recoveryOf v) (recoverySteps (shapeOf s) p (remedyOf (v .work))) j x q
+    unfolding replied stepAnswer Paper.nextProgress
+    replied-leaves q x a j e =
+        rw (count-is s p k (remedyOf (v .work)) (g .1)) (split (eqb (suc j) (stepCount (remedyOf (v .work)))) (λ h. rw h) (λ h. rw (h, e)))
+
+    pub step-made : (a : Action) (q : List ℕ) (r : Reply) → Steps.Computed (Steps.actionOf (shapeOf s) p (getD (recoverySteps (shapeOf s) p (remedyOf (v .work))) k barrier)) (length p) a → q ≡ Steps.applied a p
+        → r ≡ replied (v .work) a (k + 1) (stepCount (remedyOf (v .work))) → afterOf r q ≡ stepped (shapeOf s) p (recoveryOf v)
+    unfolding stepped Paper.concludeRecovery Paper.doneSteps
+    step-made a q r c f e =
+        let x : Step = getD (recoverySteps (shapeOf s) p (remedyOf (v .work))) k barrier in
+        rw (none-refused, g .0, e, f, add-one k, computed-pool (shapeOf s) p x _ a (length p) c refl)
+        (replied-leaves (stepPool (shapeOf s) x p) x a k (told-answer (suc k) a ∙ computed-answer (shapeOf s) p x _ a (length p) (suc k) c refl))
+
+    pub advance-made : (q : List ℕ) (m : ℕ) (r : Reply) → PartMade (shapeOf s) (recoverySteps (shapeOf s) p (remedyOf (v .work))) k (recoveryBarrier (remedyOf (v .work)) k) p q m
+        → r ≡ replied (v .work) Barrier m (stepCount (remedyOf (v .work))) → afterOf r q ≡ advanced (shapeOf s) p (recoveryOf v)
+    unfolding advanced Paper.concludeRecovery Paper.doneSteps madeAnswer
+    advance-made q m r c e = rw (none-refused, g .0, e, c .number, c .bytes) (replied-leaves _ barrier Barrier (recoveryBarrier (remedyOf (v .work)) k) refl)
+
+-- ---- a call, where the pool opens
 
 module _ (p : List ℕ) (r : Paper.Recovery) where
+  tests-are : (s : Shape) → opened p ≡ Opening.Good s → first (Paper.recoveryTests p r) ≡ first (workTests (shapeOf s) p r)
+  unfolding Paper.recoveryTests workTests
+  tests-are s e = first-right (openTests p) _ (open-passed p s e) ∙ rw (open-good p s e .2)
+
   pub step-refused : (n : ℕ) → opened p ≡ Opening.Refused n → record { answer = refused n; pool = p; recovery = r } ≡ Paper.recoveryStep p r
   unfolding Paper.recoveryStep Paper.concludeRecovery Paper.recoveryTests
   step-refused n e =
       rw (first-left (openTests p) (when (Paper.impossibleRecovery (shapeIn p) p r) 10 ∷ when (not (Paper.isRecovering (r .phase))) 29 ∷ []) n (open-refused p n e))
 
-  pub step-advanced : (s : Shape) → opened p ≡ Opening.Good s → advanced (shapeOf s) p r ≡ Paper.recoveryStep p r
-  unfolding advanced Paper.recoveryStep Paper.recoveryTests Paper.recoveryList Paper.recoveryNext
-  step-advanced s e =
-      rw (first-right (openTests p) (when (Paper.impossibleRecovery (shapeIn p) p r) 10 ∷ when (not (Paper.isRecovering (r .phase))) 29 ∷ []) (open-passed p s e), ← (open-good p s e .2))
+  pub step-on : (s : Shape) → opened p ≡ Opening.Good s → stepped (shapeOf s) p r ≡ Paper.recoveryStep p r
+  unfolding stepped Paper.recoveryStep Paper.recoveryList Paper.recoveryNext
+  step-on s e = rw (tests-are s e, ← (open-good p s e .2))
+
+  pub advance-refused : (n : ℕ) → opened p ≡ Opening.Refused n → record { answer = refused n; pool = p; recovery = r } ≡ Paper.recoveryOn p r
+  advance-refused n e = sym (recovery-advances p r .refuses n (ap (λ (x : Paper.RecoveryAfter). x .answer) (sym (step-refused n e))))
+
+  pub advance-on : (s : Shape) → opened p ≡ Opening.Good s → advanced (shapeOf s) p r ≡ Paper.recoveryOn p r
+  unfolding advanced recoveryMade Paper.recoveryList
+  advance-on s e = rw (recovery-on p r, tests-are s e, ← (open-good p s e .2))

@@ -1,14 +1,20 @@
-// Recovery by steps (01, "Commit, cut, recovery"): its record, its start and one step. Neither call has a `requires`: each answers for all
-// inputs, and its contract is one equation with the definition of that call, which gives the answer, the record and every byte of the pool.
+// Recovery by steps (01, "Commit, cut, recovery"): its record, its start, one step, and all steps up to the next barrier. No call has a
+// `requires`: each answers for all inputs, and its contract is one equation with the definition of that call, which gives the answer, the record and
+// every byte of the pool.
 ghost use mathlib.Core.Path.{_≡_};
+ghost use mathlib.Core.Bool.{false};
 ghost use Prim.Native.Nat.{_≤_};
+ghost use lib.ListN.{getD, length};
 ghost use Rattle.rules.specs.Shape.{entryLimit};
-ghost use Rattle.powercut.specs.Steps.{remedy};
-ghost use Rattle.powercut.specs.Recovery.{countAbove, recoveryStart, recoveryStep};
+ghost use Rattle.powercut.specs.Steps.{barrier, recoverySteps, remedy};
+ghost use Rattle.powercut.specs.Recovery.{countAbove, recoveryOn, recoveryStart, recoveryStep};
+ghost use Rattle.powercut.specs.Advance.{recoveryBarrier};
 ghost use Rattle.layout.specs.Meaning.{Shaped, shapeOf};
 ghost use Rattle.log.specs.Places.{LogAt};
+ghost use Rattle.actions.specs.Actions.{Computed, actionOf};
+ghost use Rattle.actions.specs.Parts.{PartMade};
 ghost use Rattle.recovery.specs.Meaning.{afterOf, recoveryOf, remedyOf};
-ghost use Rattle.recovery.specs.Advanced.{NextIs, ReplayIs, advanced, begun, lostAt, replied};
+ghost use Rattle.recovery.specs.Advanced.{FoundIs, ReplayImpossible, advanced, begun, impossibleAt, lostAt, replied, stepCount, stepped};
 use actions::Action;
 use answers::Answer;
 use layout::Opened;
@@ -41,10 +47,10 @@ pub struct Reply {
     pub recovery: Recovery,
 }
 
-// The step that comes next, with the number of steps in its list; or there is none (refusal 10).
-enum Next {
-    Make(Action, usize),
-    Impossible,
+// How a call finds the record: k steps are made and there is a next one; or it is refused.
+enum Found {
+    At(usize),
+    Refused(u8),
 }
 
 impl Recovery {
@@ -73,7 +79,20 @@ impl Recovery {
                 answer: Answer::Refused(n),
                 recovery: self,
             },
-            Opened::Good(s) => advance(self, s, pool),
+            Opened::Good(s) => step_in(self, s, pool),
+        }
+    }
+
+    // Makes all steps up to the next barrier, or the first of refusals 2, 3, 4, 2, 10, 29.
+    pub fn advance(self, pool: &mut [u8]) -> Reply
+        ensures { λ r. ⌜ afterOf r (now (pool .exit)) ≡ recoveryOn (now (pool .entry)) (recoveryOf self) ⌝ }
+    {
+        match layout::open(pool) {
+            Opened::Refused(n) => Reply {
+                answer: Answer::Refused(n),
+                recovery: self,
+            },
+            Opened::Good(s) => advance_in(self, s, pool),
         }
     }
 }
@@ -142,27 +161,62 @@ fn begin(work: Remedy) -> Reply
 }
 
 // The next step on a pool that opens: the first of refusals 10, 29, or the step made.
-fn advance(recovery: Recovery, s: Shape, pool: &mut [u8]) -> Reply
+fn step_in(recovery: Recovery, s: Shape, pool: &mut [u8]) -> Reply
+    requires { ⌜ Shaped (now pool) (shapeOf s) ⌝ }
+    ensures { λ r. ⌜ afterOf r (now (pool .exit)) ≡ stepped (shapeOf s) (now (pool .entry)) (recoveryOf recovery) ⌝ }
+{
+    match judge(recovery, s, pool) {
+        Found::Refused(n) => Reply {
+            answer: Answer::Refused(n),
+            recovery,
+        },
+        Found::At(k) => {
+            let work = recovery.work;
+            let action = action_at(work, k, s, pool);
+            actions::apply(pool, action);
+            told(work, action, k + 1)
+        }
+    }
+}
+
+// All steps up to the next barrier on a pool that opens: the first of refusals 10, 29, or the steps made.
+fn advance_in(recovery: Recovery, s: Shape, pool: &mut [u8]) -> Reply
     requires { ⌜ Shaped (now pool) (shapeOf s) ⌝ }
     ensures { λ r. ⌜ afterOf r (now (pool .exit)) ≡ advanced (shapeOf s) (now (pool .entry)) (recoveryOf recovery) ⌝ }
+{
+    match judge(recovery, s, pool) {
+        Found::Refused(n) => Reply {
+            answer: Answer::Refused(n),
+            recovery,
+        },
+        Found::At(k) => {
+            let work = recovery.work;
+            let made = make_part(work, k, s, pool);
+            told(work, Action::Barrier, made)
+        }
+    }
+}
+
+// The first of refusals 10, 29, or how many steps are made.
+fn judge(recovery: Recovery, s: Shape, pool: &[u8]) -> Found
+    requires { ⌜ Shaped (now pool) (shapeOf s) ⌝ }
+    ensures { λ r. ⌜ FoundIs (shapeOf s) (now (pool .entry)) (recoveryOf recovery) r ⌝ }
 {
     let work = recovery.work;
     let phase = recovery.phase;
     match phase {
-        Progress::Finished => Reply {
-            answer: Answer::Refused(if many(work) { 10 } else { 29 }),
-            recovery,
-        },
-        Progress::Recovering(k) => match next_step(work, k, s, pool) {
-            Next::Impossible => Reply {
-                answer: Answer::Refused(10),
-                recovery,
-            },
-            Next::Make(action, n) => {
-                actions::apply(pool, action);
-                told(work, action, k + 1, n)
+        Progress::Finished => {
+            if many(work) {
+                return Found::Refused(10);
             }
-        },
+            Found::Refused(29)
+        }
+        Progress::Recovering(k) => {
+            if impossible(work, k, s, pool) {
+                return Found::Refused(10);
+            }
+            Found::At(k)
+        }
     }
 }
 
@@ -179,40 +233,32 @@ fn many(work: Remedy) -> bool
     }
 }
 
-// Step k of a recovery.
-fn next_step(work: Remedy, k: usize, s: Shape, pool: &[u8]) -> Next
+// Whether a recovery with k steps made is impossible.
+fn impossible(work: Remedy, k: usize, s: Shape, pool: &[u8]) -> bool
     requires { ⌜ Shaped (now pool) (shapeOf s) ⌝ }
-    ensures { λ r. ⌜ NextIs (shapeOf s) (now (pool .entry)) (remedyOf work) k r ⌝ }
+    ensures { λ r. ⌜ r ≡ impossibleAt (shapeOf s) (now (pool .entry)) (remedyOf work) k ⌝ }
 {
     match work {
-        Remedy::ReplayA(n) => replay_step(s, pool, s.log_a(), n, k),
-        Remedy::ReplayB(n) => replay_step(s, pool, s.log_b(), n, k),
-        Remedy::Clear => {
-            if 3 <= k {
-                return Next::Impossible;
-            }
-            Next::Make(actions::clear_action(s, pool, k), 3)
-        }
-        Remedy::Nothing => Next::Impossible,
-        Remedy::Neither => Next::Impossible,
+        Remedy::ReplayA(n) => cannot_replay(s, pool, s.log_a(), n, k),
+        Remedy::ReplayB(n) => cannot_replay(s, pool, s.log_b(), n, k),
+        Remedy::Clear => 3 <= k,
+        Remedy::Nothing => true,
+        Remedy::Neither => true,
     }
 }
 
-// Step k of the replay of the log at `b` with the count `n`.
-fn replay_step(s: Shape, pool: &[u8], b: usize, n: usize, k: usize) -> Next
+// Whether the replay of the log at `b` with the count `n` is impossible.
+fn cannot_replay(s: Shape, pool: &[u8], b: usize, n: usize, k: usize) -> bool
     requires { ⌜ Shaped (now pool) (shapeOf s) × LogAt (shapeOf s) b ⌝ }
-    ensures { λ r. ⌜ ReplayIs (shapeOf s) (now (pool .entry)) b n k r ⌝ }
+    ensures { λ r. ⌜ ReplayImpossible (shapeOf s) (now (pool .entry)) b n k r ⌝ }
 {
     if Shape::ENTRIES < n {
-        return Next::Impossible;
+        return true;
     }
     if 2 * n + 5 <= k {
-        return Next::Impossible;
+        return true;
     }
-    if lost(s, pool, b, n, k) {
-        return Next::Impossible;
-    }
-    Next::Make(actions::redo_action(s, pool, pool, b + 16, n, k), 2 * n + 5)
+    lost(s, pool, b, n, k)
 }
 
 // Whether step k stores data or parity, or is the barrier after either, and the log at `b` is no longer valid with the count `n`.
@@ -229,10 +275,54 @@ fn lost(s: Shape, pool: &[u8], b: usize, n: usize, k: usize) -> bool
     true
 }
 
-// The reply to step k of n, from 1: done with the last.
-fn told(work: Remedy, action: Action, k: usize, n: usize) -> Reply
-    ensures { λ r. ⌜ r ≡ replied work action k n ⌝ }
+// Step k of a recovery that is possible.
+fn action_at(work: Remedy, k: usize, s: Shape, pool: &[u8]) -> Action
+    requires { ⌜ Shaped (now pool) (shapeOf s) × (impossibleAt (shapeOf s) (now pool) (remedyOf work) k ≡ false) ⌝ }
+    ensures { λ r. ⌜ Computed (actionOf (shapeOf s) (now (pool .entry)) (getD (recoverySteps (shapeOf s) (now (pool .entry)) (remedyOf work)) k barrier)) (length (now (pool .entry))) r ⌝ }
 {
+    match work {
+        Remedy::ReplayA(n) => actions::redo_action(s, pool, pool, s.log_a() + 16, n, k),
+        Remedy::ReplayB(n) => actions::redo_action(s, pool, pool, s.log_b() + 16, n, k),
+        Remedy::Clear => actions::clear_action(s, pool, k),
+        Remedy::Nothing => Action::Barrier,
+        Remedy::Neither => Action::Barrier,
+    }
+}
+
+// The steps of a recovery that is possible from step k + 1 on, up to the next barrier: that barrier's number.
+fn make_part(work: Remedy, k: usize, s: Shape, pool: &mut [u8]) -> usize
+    requires { ⌜ Shaped (now pool) (shapeOf s) × (impossibleAt (shapeOf s) (now pool) (remedyOf work) k ≡ false) ⌝ }
+    ensures { λ r. ⌜ PartMade (shapeOf s) (recoverySteps (shapeOf s) (now (pool .entry)) (remedyOf work)) k (recoveryBarrier (remedyOf work) k) (now (pool .entry)) (now (pool .exit)) r ⌝ }
+{
+    match work {
+        Remedy::ReplayA(n) => actions::replays::replay_part(s, pool, s.log_a() + 16, n, k),
+        Remedy::ReplayB(n) => actions::replays::replay_part(s, pool, s.log_b() + 16, n, k),
+        Remedy::Clear => actions::parts::clear_part(s, pool, k),
+        Remedy::Nothing => 0,
+        Remedy::Neither => 0,
+    }
+}
+
+// How many steps a recovery has.
+fn steps_of(work: Remedy) -> usize
+    requires { ⌜ countAbove (remedyOf work) ≡ false ⌝ }
+    ensures { λ r. ⌜ r ≡ stepCount (remedyOf work) ⌝ }
+{
+    match work {
+        Remedy::ReplayA(n) => 2 * n + 5,
+        Remedy::ReplayB(n) => 2 * n + 5,
+        Remedy::Clear => 3,
+        Remedy::Nothing => 0,
+        Remedy::Neither => 0,
+    }
+}
+
+// The reply to step k, from 1: done with the last.
+fn told(work: Remedy, action: Action, k: usize) -> Reply
+    requires { ⌜ countAbove (remedyOf work) ≡ false ⌝ }
+    ensures { λ r. ⌜ r ≡ replied work action k (stepCount (remedyOf work)) ⌝ }
+{
+    let n = steps_of(work);
     if k == n {
         return Reply {
             answer: Answer::Done(n),

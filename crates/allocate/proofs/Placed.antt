@@ -14,13 +14,14 @@ use Rattle.rules.proofs.Words.{length-digits}
 use Rattle.heads.specs.HeadWords.{headOf}
 use Rattle.stage.specs.View.{entriesOf}
 use Rattle.stage.specs.Touched.{Grown, Room, TouchedWords, missing}
+use Rattle.stage.proofs.Counted.{missing-append}
 use Rattle.stage.proofs.Entries.{length-entries}
 use Rattle.stage.proofs.Touched.{grown-twice, length-words, missing-words, touched-none}
 use Rattle.answers.specs.Planned.{stageEntries}
 use Rattle.answers.proofs.Planned.{stage-many, stage-stored}
 use Rattle.allocate.specs.Placed.{freeWords, placeObject}
 use Rattle.allocate.proofs.Body.{touch-zeros}
-use Rattle.allocate.proofs.Rows.{fresh-after, fresh-part, missing-append, room-behind, room-part, touched-append}
+use Rattle.allocate.proofs.Rows.{room-behind, room-part, touched-append}
 
 -- ---- the object: its head, then its body and zeros
 
@@ -37,16 +38,6 @@ module _ {st : List ℕ} {n o k : ℕ} (m : ℕ) (r : Room st n (8 * cellsFor m)
 
   pub room-body : {st′ : List ℕ} {n′ : ℕ} {ys : List ℕ} → TouchedWords st n 2 o ys st′ n′ → Room st′ n′ (8 * k - 2) (o + 16)
   room-body t = room-behind (rw parts at r) t refl
-
-module _ (st : List ℕ) (n o : ℕ) {k : ℕ} (m : ℕ) (r : missing (8 * cellsFor m) o (entriesOf st n) ≡ 8 * cellsFor m) (e : k ≡ cellsFor m) where
-  fresh : missing (2 + (8 * k - 2)) o (entriesOf st n) ≡ 2 + (8 * k - 2)
-  fresh = let q : 8 * cellsFor m ≡ 2 + (8 * k - 2) = omega (arith, cells-some m e) in rw q at r
-
-  pub fresh-head : missing 2 o (entriesOf st n) ≡ 2
-  fresh-head = fresh-part 2 (8 * k - 2) o (entriesOf st n) fresh
-
-  pub fresh-body : {st′ : List ℕ} {n′ : ℕ} {ys : List ℕ} → TouchedWords st n 2 o ys st′ n′ → missing (8 * k - 2) (o + 16) (entriesOf st′ n′) ≡ 8 * k - 2
-  fresh-body t = fresh-after (8 * k - 2) fresh t refl
 
 touched-zeros : {st st′ : List ℕ} {n m k o : ℕ} {ys : List ℕ} (z : ℕ) → TouchedWords st n k o ys st′ m → TouchedWords st n k o (ys ++ replicate z 0) st′ m
 touched-zeros {st} {n = n} {k = k} {o} {ys} z t = record { entries = t .entries ∙ sym (touch-zeros k o ys z (entriesOf st n)); grown = t .grown; most = t .most }
@@ -95,6 +86,13 @@ length-placed o left t b es =
     let r : length (touchFree (o + 64 * k) left us) ≡ length us + missing (freeWords left) (o + 8 * (8 * k)) us = rw (touch-free (o + 64 * k) left us, p) (length-words (freeWords left) (o + 8 * (8 * k)) (freeHead left) us) in
     omega (arith, r, length-words (8 * k) o (objectBytes t b) es, missing-words (8 * k) o (objectBytes t b) es (freeWords left) (o + 8 * (8 * k)) (omega arith), missing-append (8 * k) (freeWords left) o es)
 
+-- counted in three parts
+pub missing-parts : (o : ℕ) (es : List Store) (c f : ℕ) {h i r : ℕ} → 1 ≤ c → h ≡ missing 2 o es → i ≡ missing (8 * c - 2) (o + 16) es → r ≡ missing f (o + 64 * c) es → h + (i + r) ≡ missing (8 * c + f) o es
+missing-parts o es c f l p q e =
+    let k : 8 * c + f ≡ 2 + (8 * c - 2 + f) = omega arith in
+    let j : o + 16 + 8 * (8 * c - 2) ≡ o + 64 * c = omega arith in
+    rw (k, missing-append 2 (8 * c - 2 + f) o es, missing-append (8 * c - 2) f (o + 16) es, j, p, q, e)
+
 module _ (st : List ℕ) (n o left t : ℕ) (b : List ℕ) {c f x : ℕ} (e : c ≡ cellsFor (length b)) (g : f ≡ freeWords left) (d : x ≡ missing (8 * c + f) o (entriesOf st n)) where
   abbrev es : List Store
   es = placeObject o left t b (entriesOf st n)
@@ -104,17 +102,6 @@ module _ (st : List ℕ) (n o left t : ℕ) (b : List ℕ) {c f x : ℕ} (e : c 
 
   pub place-many : (a : Answer) → entryLimit < n + x → record { answer = refused 27; staging = st; count = n } ≡ stageEntries st n a es
   place-many a h = stage-many st n a es (rw count h)
-
-  -- none of the words has an entry yet
-  module _ (a : x ≡ 8 * c + f) where
-    whole : missing (8 * cellsFor (length b) + freeWords left) o (entriesOf st n) ≡ 8 * cellsFor (length b) + freeWords left
-    whole = rw (← e, ← g) (sym d ∙ a)
-
-    pub fresh-object : missing (8 * cellsFor (length b)) o (entriesOf st n) ≡ 8 * cellsFor (length b)
-    fresh-object = fresh-part (8 * cellsFor (length b)) (freeWords left) o (entriesOf st n) whole
-
-    pub fresh-left : {st′ : List ℕ} {m : ℕ} → TouchedWords st n (8 * cellsFor (length b)) o (objectBytes t b) st′ m → missing (freeWords left) (o + 64 * c) (entriesOf st′ m) ≡ freeWords left
-    fresh-left u = fresh-after (freeWords left) whole u (rw e (omega arith))
 
   module _ (l : stagingSize ≤ length st) (h : n + x ≤ entryLimit) where
     room : Room st n (8 * cellsFor (length b) + freeWords left) o

@@ -11,7 +11,7 @@ use Rattle.rules.specs.Staging.{Store, touch, touchWords}
 use Rattle.rules.proofs.Words.{word-cong}
 use Rattle.stage.specs.View.{entriesOf}
 use Rattle.stage.specs.Touched.{Room, TouchedWords, missing}
-use Rattle.stage.proofs.Counted.{missing-most}
+use Rattle.stage.proofs.Counted.{missing-append}
 use Rattle.stage.proofs.Entries.{length-entries}
 use Rattle.stage.proofs.Touched.{grown-twice, length-words, missing-words}
 
@@ -23,13 +23,6 @@ touch-append (suc k) j o xs ys es h =
     let w : word (xs ++ ys) 0 ≡ word xs 0 = word-cong (xs ++ ys) xs 0 (λ i l. List·getD-append xs ys 0 (0 + i) (omega arith)) in
     let e : o + 8 + 8 * k ≡ o + 8 * suc k = omega arith in
     rw (suc-add k j, touchWords, w, drop-append-le 8 xs ys (omega arith), touch-append k j (o + 8) (drop 8 xs) ys (touch o (word xs 0) es) (length-drop 8 xs ∙ omega arith), e)
-
-pub missing-append : (k j o : ℕ) (es : List Store) → missing (k + j) o es ≡ missing k o es + missing j (o + 8 * k) es
-unfolding missing
-missing-append zero j o es = rw (zero-add j, add-zero o) (sym (zero-add (missing j o es)))
-missing-append (suc k) j o es =
-    let e : o + 8 + 8 * k ≡ o + 8 * suc k = omega arith in
-    rw (suc-add k j, missing, missing-append k j (o + 8) es, e) (omega arith)
 
 -- ---- in staging memory
 
@@ -55,15 +48,10 @@ room-behind {st} {st′} {n} {m} {k} {j} {o} {p} {ys} r t e =
     let b : missing j p (entriesOf st′ m) ≡ missing j (o + 8 * k) (entriesOf st n) = rw (t .entries, e) (missing-words k o ys (entriesOf st n) j (o + 8 * k) (omega arith)) in
     record { held = rw (t .grown .long, b) (omega (arith, r .held, missing-append k j o (entriesOf st n))) }
 
--- ---- words of which none has an entry yet: the first k, and those behind them
+-- ---- words behind them of which none has an entry yet
 
-pub fresh-part : (k j o : ℕ) (es : List Store) → missing (k + j) o es ≡ k + j → missing k o es ≡ k
-fresh-part k j o es e = omega (arith, e, missing-append k j o es, missing-most k o es, missing-most j (o + 8 * k) es)
-
-pub fresh-after : {st st′ : List ℕ} {n m k o p : ℕ} {ys : List ℕ} (j : ℕ) → missing (k + j) o (entriesOf st n) ≡ k + j → TouchedWords st n k o ys st′ m → p ≡ o + 8 * k → missing j p (entriesOf st′ m) ≡ j
-fresh-after {st} {n = n} {k = k} {o} {ys = ys} j e t q =
-    rw (t .entries, q, missing-words k o ys (entriesOf st n) j (o + 8 * k) (omega arith))
-    (omega (arith, e, missing-append k j o (entriesOf st n), missing-most k o (entriesOf st n), missing-most j (o + 8 * k) (entriesOf st n)))
+pub fresh-after : {st st′ : List ℕ} {n m k o : ℕ} {ys : List ℕ} (j p : ℕ) → missing j p (entriesOf st n) ≡ j → TouchedWords st n k o ys st′ m → o + 8 * k ≤ p → missing j p (entriesOf st′ m) ≡ j
+fresh-after {st} {n = n} {k = k} {o} {ys = ys} j p e t h = rw (t .entries, missing-words k o ys (entriesOf st n) j p h) e
 
 -- ---- one word more, of k
 

@@ -10,7 +10,7 @@ ghost use Rattle.rules.specs.Shape.{headSize};
 ghost use Rattle.rules.specs.Words.{digits};
 ghost use Rattle.rules.specs.Runs.{cellsFor, freeHead, freeOk, headBytes, headCells, headCheck, headLength, headTag, objectKind, objectOk};
 ghost use Rattle.sums.specs.Fed.{Below, Fed};
-ghost use Rattle.stage.specs.Clear.{Clear};
+ghost use Rattle.stage.specs.Index.{Indexed};
 ghost use Rattle.stage.specs.View.{part, seen, Staged};
 ghost use Rattle.heads.specs.HeadWords.{coveredBy, headOf, Checked};
 use sums::Sums;
@@ -160,22 +160,11 @@ pub fn put_head(s: &mut [u8], at: usize, head: Head)
 }
 
 // The head at `at`, as staged.
-pub fn read_head(pool: &[u8], staging: &[u8], count: usize, at: usize) -> Head
-    requires { ⌜ Staged (now pool) (now staging) count × (at % 8 ≡ 0) × (at + 16 ≤ length (now pool)) ⌝ }
+pub fn read_head(pool: &[u8], staging: &[u8], index: &[u8], count: usize, at: usize) -> Head
+    requires { ⌜ Staged (now pool) (now staging) count × (at % 8 ≡ 0) × (at + 16 ≤ length (now pool)) × Indexed (now index) (now staging) count ⌝ }
     ensures { λ r. ⌜ headOf (r .first) (r .second) ≡ part 16 at (seen (now (pool .entry)) (now (staging .entry)) count) ⌝ }
 {
-    let first = stage::staged_word(pool, staging, count, at);
-    let second = stage::staged_word(pool, staging, count, at + 8);
+    let first = stage::staged_word(pool, staging, index, count, at);
+    let second = stage::staged_word(pool, staging, index, count, at + 8);
     Head { first, second }
-}
-
-// The head at `at`, as staged, where no entry has a target from `at` on below `next`: read from the pool alone where that is known.
-pub fn head_before(pool: &[u8], staging: &[u8], count: usize, at: usize, next: usize) -> Head
-    requires { ⌜ Staged (now pool) (now staging) count × (at % 8 ≡ 0) × (at + 16 ≤ length (now pool)) × Clear (now staging) count at next ⌝ }
-    ensures { λ r. ⌜ headOf (r .first) (r .second) ≡ part 16 at (seen (now (pool .entry)) (now (staging .entry)) count) ⌝ }
-{
-    if at + 16 <= next {
-        return read_head(pool, staging, 0, at);
-    }
-    read_head(pool, staging, count, at)
 }

@@ -21,7 +21,8 @@ use Rattle.words.specs.Loaded.{Loaded}
 use Rattle.layout.specs.declared.Shape.{Shape}
 use Rattle.layout.specs.Meaning.{InRange, shapeOf}
 use Rattle.layout.proofs.Range.{shape-good}
-use Rattle.log.specs.Targets.{DataRows, RowsFor, absentFrom, allFit, checkOf, fits, markCount, markOf, read}
+use Rattle.stage.specs.Index.{markCount, markOf}
+use Rattle.log.specs.Targets.{DataRows, RowsFor, absentFrom, allFit, checkOf, fits, read}
 
 abbrev pub entry : List ℕ → ℕ → Store
 entry p a = record { at = word p a; val = word p (a + 8) }

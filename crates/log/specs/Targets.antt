@@ -1,6 +1,6 @@
 -- Entries and their targets, as the code reads and judges them: names for 01's definitions that a proof opens only where it must.
 -- Assumes nothing.
-use Prim.Native.Nat.{ℕ, _*_, _/_, _%_, _≤_, _<_}
+use Prim.Native.Nat.{ℕ, _%_, _≤_, _<_}
 use mathlib.Core.Path.{_≡_}
 use mathlib.Core.List.{List}
 use mathlib.Core.Bool.{Bool, true}
@@ -34,10 +34,3 @@ pub record DataRows (sh : Shape) (low high : ℕ) : Type 0 where
 pub record RowsFor (sh : Shape) (t low high : ℕ) : Type 0 where
   pub rows : DataRows sh low high
   pub around : fits sh t ≡ true → (low ≤ t) × (t < high)
-
--- Targets share 256 marks; the one that stands for the target t.
-abbrev pub markCount : ℕ
-markCount = 256
-
-unfoldable pub markOf : ℕ → ℕ
-markOf t = t / 8 % 65536 * 40503 / markCount % markCount

@@ -11,12 +11,9 @@ ghost use Rattle.rules.specs.Seals.{readTests, unsealed};
 ghost use Rattle.layout.specs.Meaning.{InRange, Shaped, answer, shapeOf};
 ghost use Rattle.powercut.specs.Log.{countIn, sealOf, valid as validLog};
 ghost use Rattle.log.specs.Places.{LogAt};
-ghost use Rattle.log.specs.Targets.{DataRows, RowsFor, absentFrom, allFit, checkOf, markCount, markOf, read};
+ghost use Rattle.log.specs.Targets.{DataRows, RowsFor, absentFrom, allFit, checkOf, read};
 use layout::Opened;
 use layout::Shape;
-
-// The marks that targets share.
-const MARKS: usize = 256;
 
 // Places from `low` up to `high`: data rows of one zone, or none.
 struct Rows {
@@ -96,20 +93,13 @@ fn absent_marked(p: &[u8], at: usize, n: usize, t: u64, mark: u8) -> bool
     absent(p, at, n, t)
 }
 
-// The mark of the target `t`, by Fibonacci hashing of its word's number: words in a row and heads at even distances seldom share one.
-fn mark_of(t: u64) -> usize
-    ensures { λ r. ⌜ (r ≡ markOf t) × (r < markCount) ⌝ }
-{
-    t as usize / 8 % 65536 * 40503 / MARKS % MARKS
-}
-
 // Whether the targets of the `n` entries at `at` fit and none repeats. From the last to the first: each entry passed has set its target's
 // mark, so that the entries after one are searched only where its mark is set.
 pub fn targets_fit(s: Shape, p: &[u8], at: usize, n: usize) -> bool
     requires { ⌜ (InRange (shapeOf s)) × (at + 16 * n ≤ length (now p)) ⌝ }
     ensures { λ r. ⌜ r ≡ allFit (shapeOf s) (read (now (p .entry)) at n) ⌝ }
 {
-    let mut marks = [0u8; MARKS];
+    let mut marks = [0u8; stage::MARKS];
     let mut rows = Rows { low: 0, high: 0 };
     let mut i = n;
     while i > 0 {
@@ -118,7 +108,7 @@ pub fn targets_fit(s: Shape, p: &[u8], at: usize, n: usize) -> bool
         if !in_rows(rows, t) {
             return false;
         }
-        let k = mark_of(t);
+        let k = stage::mark_of(t);
         if !absent_marked(p, at + 16 * i, n - i, t, marks[k]) {
             return false;
         }

@@ -12,9 +12,8 @@ use Rattle.rules.specs.Check.{check, high, low}
 use Rattle.rules.specs.Runs.{covered, headCheck}
 use Rattle.sums.specs.Fed.{Below, Fed}
 use Rattle.sums.proofs.Fed.{high-append, low-append}
-use Rattle.stage.specs.View.{Reads, Staged, part, seen}
-use Rattle.stage.specs.Clear.{Clear}
-use Rattle.stage.proofs.Clear.{part-clear}
+use Rattle.stage.specs.View.{Reads, part, seen}
+use Rattle.stage.proofs.View.{seen-none}
 use Rattle.heads.specs.HeadWords.{coveredBy, headOf}
 use Rattle.heads.proofs.Digits.{take-digits}
 use Rattle.heads.proofs.HeadWords.{covered-fed, head-covered}
@@ -56,10 +55,9 @@ pub feeding-end : {a h : ℕ} {v : List ℕ} {from n l g p m : ℕ} → Feeding 
 unfolding part low high
 feeding-end {v = v} {p = p} f e = record { low-is = rw e at (f .low-is); high-is = rw e at (f .high-is); below = f .below }
 
--- where no entry has a target the bytes are the pool's own
-pub fed-pool : {a h : ℕ} {pool st : List ℕ} {k from b : ℕ} (n : ℕ) {l g : ℕ} → Staged pool st k → from % 8 ≡ 0 → from + n ≤ b → Clear st k from b
-    → Fed a h (take (from + n - from) (drop from pool)) l g → Fed a h (part n from (seen pool st k)) l g
-fed-pool {from = from} n s e q c f = rw (part-clear n s e q c) (unfold part in (rw (add-sub-cancel-left from n) at f))
+-- with no entries the bytes are the pool's own
+pub fed-pool : {a h : ℕ} (pool st : List ℕ) {k : ℕ} (from n : ℕ) {l g : ℕ} → k ≡ 0 → Fed a h (take (from + n - from) (drop from pool)) l g → Fed a h (part n from (seen pool st k)) l g
+fed-pool pool st from n e f = rw (e, seen-none pool st) (unfold part in (rw (add-sub-cancel-left from n) at f))
 
 pub intact-is : (a b : ℕ) {l g l′ g′ x y : ℕ} {body : List ℕ} → x ≡ headCheck (headOf a b) → Fed 1 0 (coveredBy a (b / 4294967296) []) l g → Fed l g body l′ g′ → y ≡ g′ * 65536 + l′
     → eqb x y ≡ eqb (headCheck (headOf a b)) (check (covered (headOf a b) body))

@@ -9,6 +9,7 @@ ghost use Rattle.rules.specs.Check.{check as checkOf};
 ghost use Rattle.rules.specs.Runs.{covered, headCells, headCheck, objectOk};
 ghost use Rattle.rules.specs.Search.{runAt};
 ghost use Rattle.sums.specs.Fed.{Below, Fed};
+ghost use Rattle.stage.specs.Index.{Indexed};
 ghost use Rattle.stage.specs.View.{part, seen, Staged};
 ghost use Rattle.heads.specs.HeadWords.{headOf};
 ghost use Rattle.runs.specs.Rest.{walkOf, Zoned};
@@ -26,51 +27,79 @@ pub enum Named {
 }
 
 // The sums after the `n` bytes from `from` on, as staged.
-pub fn feed_part(pool: &[u8], staging: &[u8], count: usize, s: Sums, from: usize, n: usize) -> Sums
-    requires { ⌜ Staged (now pool) (now staging) count × (from % 8 ≡ 0) × (from + n ≤ length (now pool)) × Below (s .low) (s .high) ⌝ }
+pub fn feed_part(
+    pool: &[u8],
+    staging: &[u8],
+    index: &[u8],
+    count: usize,
+    s: Sums,
+    from: usize,
+    n: usize,
+) -> Sums
+    requires { ⌜ Staged (now pool) (now staging) count × (from % 8 ≡ 0) × (from + n ≤ length (now pool)) × Below (s .low) (s .high) × Indexed (now index) (now staging) count ⌝ }
     ensures { λ r. ⌜ Fed (s .low) (s .high) (part n from (seen (now (pool .entry)) (now (staging .entry)) count)) (r .low) (r .high) ⌝ }
 {
-    if from + n <= stage::next_target(staging, count, from) {
+    if count == 0 {
         return s.feed(&pool[from..from + n]);
     }
     let mut sums = s;
     let mut at = from;
     let mut left = n;
     while 8 <= left {
-        sums = heads::feed_word(sums, stage::staged_word(pool, staging, count, at), 8);
+        sums = heads::feed_word(sums, stage::staged_word(pool, staging, index, count, at), 8);
         at += 8;
         left -= 8;
     }
     if left == 0 {
         return sums;
     }
-    heads::feed_word(sums, stage::staged_word(pool, staging, count, at), left)
+    heads::feed_word(
+        sums,
+        stage::staged_word(pool, staging, index, count, at),
+        left,
+    )
 }
 
 // Whether the check in the head `h` at `at` is right over a body of `m` bytes.
-pub fn intact(pool: &[u8], staging: &[u8], count: usize, h: Head, at: usize, m: usize) -> bool
-    requires { ⌜ Staged (now pool) (now staging) count × (at % 8 ≡ 0) × (at + 16 + m ≤ length (now pool)) ⌝ }
+pub fn intact(
+    pool: &[u8],
+    staging: &[u8],
+    index: &[u8],
+    count: usize,
+    h: Head,
+    at: usize,
+    m: usize,
+) -> bool
+    requires { ⌜ Staged (now pool) (now staging) count × (at % 8 ≡ 0) × (at + 16 + m ≤ length (now pool)) × Indexed (now index) (now staging) count ⌝ }
     ensures { λ r. ⌜ r ≡ eqb (headCheck (headOf (h .first) (h .second))) (checkOf (covered (headOf (h .first) (h .second)) (part m (at + 16) (seen (now (pool .entry)) (now (staging .entry)) count)))) ⌝ }
 {
-    let s = feed_part(pool, staging, count, h.sums(), at + 16, m);
+    let s = feed_part(pool, staging, index, count, h.sums(), at + 16, m);
     h.check() == s.value()
 }
 
 // The object with the head `h` at `at`, or refusal 25.
-fn object(pool: &[u8], staging: &[u8], count: usize, h: Head, at: usize) -> Named
-    requires { ⌜ Staged (now pool) (now staging) count × (at % 8 ≡ 0) × (at + 64 * headCells (headOf (h .first) (h .second)) ≤ length (now pool)) × (objectOk (headOf (h .first) (h .second)) ≡ true) ⌝ }
+fn object(pool: &[u8], staging: &[u8], index: &[u8], count: usize, h: Head, at: usize) -> Named
+    requires { ⌜ Staged (now pool) (now staging) count × (at % 8 ≡ 0) × (at + 64 * headCells (headOf (h .first) (h .second)) ≤ length (now pool)) × (objectOk (headOf (h .first) (h .second)) ≡ true) × Indexed (now index) (now staging) count ⌝ }
     ensures { λ r. ⌜ Names (seen (now (pool .entry)) (now (staging .entry)) count) at (some (objectRun (seen (now (pool .entry)) (now (staging .entry)) count) at (headOf (h .first) (h .second)))) r ⌝ }
 {
     let m = h.body();
-    if intact(pool, staging, count, h, at, m) {
+    if intact(pool, staging, index, count, h, at, m) {
         return Named::Object(h.cells(), m, h.tag());
     }
     Named::Refused(25)
 }
 
 // The object that begins at cell `c` of a zone, located, or refusal 24 or 25.
-pub fn in_zone(pool: &[u8], staging: &[u8], count: usize, zone: Zone, c: usize, s: Spot) -> Named
-    requires { ⌜ Staged (now pool) (now staging) count × Zoned (now pool) (zone .from) (zone .cells) × (c < zone .cells) × Spotted (seen (now pool) (now staging) count) (zone .from) (zone .cells) c (s .prior) (s .cells) (s .free) ⌝ }
+pub fn in_zone(
+    pool: &[u8],
+    staging: &[u8],
+    index: &[u8],
+    count: usize,
+    zone: Zone,
+    c: usize,
+    s: Spot,
+) -> Named
+    requires { ⌜ Staged (now pool) (now staging) count × Zoned (now pool) (zone .from) (zone .cells) × (c < zone .cells) × Spotted (seen (now pool) (now staging) count) (zone .from) (zone .cells) c (s .prior) (s .cells) (s .free) × Indexed (now index) (now staging) count ⌝ }
     ensures { λ r. ⌜ Names (seen (now (pool .entry)) (now (staging .entry)) count) (zone .from + 64 * c) (runAt c 0 (walkOf (seen (now (pool .entry)) (now (staging .entry)) count) (zone .from) (zone .cells) .runs)) r ⌝ }
 {
     if s.cells == 0 {
@@ -84,8 +113,9 @@ pub fn in_zone(pool: &[u8], staging: &[u8], count: usize, zone: Zone, c: usize, 
     object(
         pool,
         staging,
+        index,
         count,
-        heads::read_head(pool, staging, count, at),
+        heads::read_head(pool, staging, index, count, at),
         at,
     )
 }

@@ -15,7 +15,7 @@ use Rattle.rules.proofs.Parts.{sets-cut, sets-from}
 use Rattle.rules.proofs.Staging.{lay-touch, tidy-touch}
 use Rattle.stage.specs.View.{Reads, Staged, entriesOf, part, seen}
 use Rattle.stage.specs.Touched.{Grown, Room, Touched, added}
-use Rattle.stage.proofs.Counted.{fresh-at, fresh-behind, fresh-first}
+use Rattle.stage.proofs.Counted.{fresh-behind, fresh-first}
 use Rattle.stage.proofs.Touched.{grown-twice, room-count, room-first, room-next}
 use Rattle.overwrite.specs.Range.{RangeFresh, RangeRoom, RangeTouched}
 use Rattle.overwrite.proofs.Updated.{rest-all}
@@ -144,13 +144,6 @@ ranging-step {pool} {st₀} {n₀} {at} {xs} {st} {st′} {m} {m′} {i} {r} {w}
     }
 
 -- ---- no entry for any word of the range
-
-pub fresh-within : {st : List ℕ} {n at k i : ℕ} → RangeFresh st n at k → i < k → added ((at + i) / 8 * 8) (entriesOf st n) ≡ 1
-unfolding wordCount wordFrom
-fresh-within {st} {n} {at} {k} {i} f h =
-    let j : ℕ = (at + i) / 8 - at / 8 in
-    let q : at / 8 * 8 + 8 * j ≡ (at + i) / 8 * 8 = omega arith in
-    sym (ap (λ (x : ℕ). added x (entriesOf st n)) q) ∙ fresh-at ((at % 8 + k + 7) / 8) j (at / 8 * 8) (entriesOf st n) (f .all) (omega arith)
 
 pub fresh-start : {st : List ℕ} {n at k : ℕ} → RangeFresh st n at k → RangeFresh st n (at + 0) (k - 0)
 fresh-start {at = at} {k} f = rw (add-zero at, sub-zero k) f

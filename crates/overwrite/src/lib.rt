@@ -2,11 +2,12 @@
 // words that hold the range touched.
 ghost use mathlib.Core.Path.{_≡_};
 ghost use mathlib.Core.Bool.{true};
-ghost use Prim.Native.Nat.{_+_, _*_, _^_, _≤_, _<_};
+ghost use Prim.Native.Nat.{_+_, _≤_};
 ghost use lib.ListN.{length, drop};
 ghost use lib.Seq.{sets};
 ghost use Rattle.rules.specs.Words.{digits, word as wordOf};
 ghost use Rattle.sums.specs.Fed.{updatedRange};
+ghost use Rattle.stage.specs.Index.{Indexed};
 ghost use Rattle.stage.specs.View.{part, seen, Staged};
 ghost use Rattle.overwrite.specs.Range.{RangeFresh, RangeRoom, RangeTouched};
 
@@ -33,34 +34,25 @@ fn word_check(check: u32, left: u16, word: u64, skip: usize, new: &[u8]) -> u32
     part_check(check, left, &old, skip, new)
 }
 
-// Whether none of the words that hold `n` bytes from `at` on has an entry yet.
-fn range_fresh(staging: &[u8], count: usize, at: usize, n: usize) -> bool
-    requires { ⌜ (16 * count ≤ length (now staging)) × (at + n + 7 < 2 ^ 64) ⌝ }
-    ensures { λ r. ⌜ (r ≡ true → RangeFresh (now (staging .entry)) count at n) ⌝ }
-{
-    let words = (at % 8 + n + 7) / 8;
-    stage::all_fresh(staging, count, (at / 8 * 8) as u64, words, false)
-}
-
 // The check after the staged bytes from `at` on became `bytes`, where `left` bytes stand from the first of them on.
 pub fn new_check(
     pool: &[u8],
     staging: &[u8],
+    index: &[u8],
     count: usize,
     check: u32,
     at: usize,
     left: u16,
     bytes: &[u8],
 ) -> u32
-    requires { ⌜ Staged (now pool) (now staging) count × (at + length (now bytes) ≤ length (now pool)) × (length (now bytes) ≤ left) ⌝ }
+    requires { ⌜ Staged (now pool) (now staging) count × (at + length (now bytes) ≤ length (now pool)) × (length (now bytes) ≤ left) × Indexed (now index) (now staging) count ⌝ }
     ensures { λ r. ⌜ r ≡ updatedRange check left (part (length (now (bytes .entry))) at (seen (now (pool .entry)) (now (staging .entry)) count)) (now (bytes .entry)) ⌝ }
 {
-    let fresh = range_fresh(staging, count, at, bytes.len());
     let mut sum = check;
     let mut i = 0;
     while i < bytes.len() {
         let skip = (at + i) % 8;
-        let word = stage::known_word(pool, staging, count, (at + i) / 8 * 8, fresh);
+        let word = stage::staged_word(pool, staging, index, count, (at + i) / 8 * 8);
         sum = word_check(sum, left - (i as u16), word, skip, &bytes[i..]);
         i += 8 - skip;
     }
@@ -91,12 +83,19 @@ fn lay_word(word: u64, skip: usize, new: &[u8]) -> u64
     words::load64(&bytes, 0)
 }
 
-// Touches the words that hold the range from `at` on, with `bytes` laid over it; the number of entries then.
-pub fn touch_range(pool: &[u8], staging: &mut [u8], count: usize, at: usize, bytes: &[u8]) -> usize
-    requires { ⌜ Staged (now pool) (now staging) count × RangeRoom (now pool) (now staging) count at (length (now bytes)) ⌝ }
+// Touches the words that hold the range from `at` on, with `bytes` laid over it; they have no entry yet where `fresh`. The number of
+// entries then.
+pub fn touch_range(
+    pool: &[u8],
+    staging: &mut [u8],
+    count: usize,
+    at: usize,
+    bytes: &[u8],
+    fresh: bool,
+) -> usize
+    requires { ⌜ Staged (now pool) (now staging) count × RangeRoom (now pool) (now staging) count at (length (now bytes)) × (fresh ≡ true → RangeFresh (now staging) count at (length (now bytes))) ⌝ }
     ensures { λ r. ⌜ RangeTouched (now (pool .entry)) (now (staging .entry)) count at (now (bytes .entry)) (now (staging .exit)) r ⌝ }
 {
-    let fresh = range_fresh(staging, count, at, bytes.len());
     let mut n = count;
     let mut done = 0;
     while done < bytes.len() {

@@ -9,7 +9,6 @@ use lib.Dec.{eqb}
 use borrow.Author.Tests.{eq-eqb, ne-eqb}
 use Rattle.rules.specs.Runs.{Run, Walk, cells, free, isFree, object}
 use Rattle.rules.specs.Search.{Place, freeCells, joined, lead, runAt}
-use Rattle.stage.specs.Clear.{Clear}
 use Rattle.runs.specs.Rest.{Meets, Passed, Zoned, restOf, walkOf, walkOn}
 use Rattle.runs.specs.Spotted.{Came, Coming, Joined, Lead, Located, Spotted, Stands, freeOf}
 use Rattle.runs.proofs.Rest.{walk-broken, walk-end}
@@ -83,8 +82,8 @@ module _ {v : List ℕ} {from n a p c : ℕ} {f : Bool} (k : Coming v from n a p
   pub coming-broken : {m : ℕ} {g : Bool} → Zoned v from n → c < n → Meets v from n c f m g → m ≡ 0 → walkOf v from n .whole ≡ false
   coming-broken z h e q = sym (k .whole) ∙ ap (λ (w : Walk). w .whole) (walk-broken z h e q)
 
-  pub came-here : {st : List ℕ} {i next : ℕ} → a ≤ c → Clear st i (from + 64 * c) next → Came v st i from n a true p c f next
-  came-here h l = record { broken = λ e. apart (sym e); coming = λ e. k; past = λ e. h; clear = λ e. l }
+  pub came-here : a ≤ c → Came v from n a true p c f
+  came-here h = record { broken = λ e. apart (sym e); coming = λ e. k; past = λ e. h }
 
   pub located-none : {x : Bool} → a < c → x ≡ walkOn f (restOf v from n c) .whole → Located v from n a x 0 0 false
   located-none h e = record { whole-is = e ∙ k .whole; spotted = λ y. spotted-none k h refl }
@@ -92,9 +91,9 @@ module _ {v : List ℕ} {from n a p c : ℕ} {f : Bool} (k : Coming v from n a p
   pub located-here : {x : Bool} {m : ℕ} {g : Bool} → c ≡ a → Passed v from n c f m g → x ≡ walkOn g (restOf v from n (c + m)) .whole → Located v from n a x p m g
   located-here q d e = record { whole-is = e ∙ sym (d .whole) ∙ k .whole; spotted = λ y. spotted-here k q d }
 
-pub came-broken : {v st : List ℕ} {i from n a p c next : ℕ} {f : Bool} → sought a p c (record { runs = []; whole = false }) ≡ sought a 0 0 (walkOf v from n)
-    → Came v st i from n a false p c f next
-came-broken e = record { broken = λ y. sym (ap (λ (x : Sought). x .0) e); coming = apart; past = apart; clear = apart }
+pub came-broken : {v : List ℕ} {from n a p c : ℕ} {f : Bool} → sought a p c (record { runs = []; whole = false }) ≡ sought a 0 0 (walkOf v from n)
+    → Came v from n a false p c f
+came-broken e = record { broken = λ y. sym (ap (λ (x : Sought). x .0) e); coming = apart; past = apart }
 
 pub located-broken : {v : List ℕ} {from n a p m : ℕ} {f : Bool} → walkOf v from n .whole ≡ false → Located v from n a false p m f
 located-broken e = record { whole-is = sym e; spotted = apart }

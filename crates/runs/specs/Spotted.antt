@@ -5,7 +5,6 @@ use mathlib.Core.Bool.{Bool, true, false, cond}
 use mathlib.Core.Option.{none}
 use mathlib.Core.List.{List}
 use Rattle.rules.specs.Search.{joined, lead, runAt}
-use Rattle.stage.specs.Clear.{Clear}
 use Rattle.runs.specs.Rest.{Passed, restOf, walkOf, walkOn}
 
 -- The walk comes to cell c, with p free cells right before it, and looks for cell a.
@@ -17,11 +16,10 @@ pub record Coming (v : List ℕ) (from n a p c : ℕ) (after : Bool) : Type 0 wh
   pub join : joined a p c (walkOn after (restOf v from n c) .runs) ≡ joined a 0 0 (walkOf v from n .runs)
 
 -- It came to the first run at or behind cell a; or, where w is false, it met a broken run before.
-pub record Came (v st : List ℕ) (k from n a : ℕ) (w : Bool) (p c : ℕ) (after : Bool) (next : ℕ) : Type 0 where
+pub record Came (v : List ℕ) (from n a : ℕ) (w : Bool) (p c : ℕ) (after : Bool) : Type 0 where
   pub broken : w ≡ false → walkOf v from n .whole ≡ false
   pub coming : w ≡ true → Coming v from n a p c after
   pub past : w ≡ true → a ≤ c
-  pub clear : w ≡ true → Clear st k (from + 64 * c) next
 
 -- A run of m cells begins at cell a.
 pub record Stands (v : List ℕ) (from n a p m : ℕ) (f : Bool) : Type 0 where

@@ -4,7 +4,7 @@ ghost use mathlib.Core.Bool.{true};
 ghost use mathlib.Core.Option.{none};
 ghost use Prim.Native.Nat.{_+_, _*_, _≤_, _<_};
 ghost use Rattle.rules.specs.Search.{runAt};
-ghost use Rattle.stage.specs.Clear.{Clear};
+ghost use Rattle.stage.specs.Index.{Indexed};
 ghost use Rattle.stage.specs.View.{seen, Staged};
 ghost use Rattle.runs.specs.Rest.{restOf, walkOf, walkOn, Meets, Zoned};
 ghost use Rattle.runs.specs.Spotted.{freeOf, Came, Joined, Lead, Located, Spotted};
@@ -21,21 +21,13 @@ pub struct Met {
     pub free: bool,
 }
 
-// A run that was met on the way, and a place up to which no entry has a target from the run's first byte on.
-pub struct Step {
-    pub cells: usize,
-    pub free: bool,
-    pub next: usize,
-}
-
 // How far the walk to a cell came: whether it met no broken run; and where it met none, the free cells right before the cell it came to, that
-// cell, whether a free run stands right before it, and a place up to which no entry has a target from there on.
+// cell, and whether a free run stands right before it.
 struct Way {
     whole: bool,
     prior: usize,
     cell: usize,
     after: bool,
-    next: usize,
 }
 
 // A cell where a run may begin: whether its zone is unbroken; and in an unbroken zone the free cells right before it, the run's cells (0 where
@@ -53,21 +45,21 @@ pub struct Place {
     pub count: usize,
 }
 
-// The run at cell `c`, behind a free run or not, where no entry has a target from there on below `next`.
-fn meet_before(
+// The run at cell `c`, behind a free run or not.
+pub fn meet(
     pool: &[u8],
     staging: &[u8],
+    index: &[u8],
     count: usize,
     zone: Zone,
     c: usize,
     after: bool,
-    next: usize,
 ) -> Met
-    requires { ⌜ Staged (now pool) (now staging) count × Zoned (now pool) (zone .from) (zone .cells) × (c < zone .cells) × Clear (now staging) count (zone .from + 64 * c) next ⌝ }
+    requires { ⌜ Staged (now pool) (now staging) count × Zoned (now pool) (zone .from) (zone .cells) × (c < zone .cells) × Indexed (now index) (now staging) count ⌝ }
     ensures { λ r. ⌜ Meets (seen (now (pool .entry)) (now (staging .entry)) count) (zone .from) (zone .cells) c after (r .cells) (r .free) ⌝ }
 {
     let from = zone.from;
-    let h = heads::head_before(pool, staging, count, from + 64 * c, next);
+    let h = heads::read_head(pool, staging, index, count, from + 64 * c);
     let n = h.cells();
     if zone.cells - c < n {
         return Met {
@@ -99,37 +91,6 @@ fn meet_before(
     }
 }
 
-// The run at cell `c`, behind a free run or not.
-pub fn meet(pool: &[u8], staging: &[u8], count: usize, zone: Zone, c: usize, after: bool) -> Met
-    requires { ⌜ Staged (now pool) (now staging) count × Zoned (now pool) (zone .from) (zone .cells) × (c < zone .cells) ⌝ }
-    ensures { λ r. ⌜ Meets (seen (now (pool .entry)) (now (staging .entry)) count) (zone .from) (zone .cells) c after (r .cells) (r .free) ⌝ }
-{
-    meet_before(pool, staging, count, zone, c, after, 0)
-}
-
-// The same in a walk, which carries `next` along: the entries are asked only where the walk has come past it.
-pub fn advance(
-    pool: &[u8],
-    staging: &[u8],
-    count: usize,
-    zone: Zone,
-    c: usize,
-    after: bool,
-    next: usize,
-) -> Step
-    requires { ⌜ Staged (now pool) (now staging) count × Zoned (now pool) (zone .from) (zone .cells) × (c < zone .cells) × Clear (now staging) count (zone .from + 64 * c) next ⌝ }
-    ensures { λ r. ⌜ Meets (seen (now (pool .entry)) (now (staging .entry)) count) (zone .from) (zone .cells) c after (r .cells) (r .free) × Clear (now (staging .entry)) count (zone .from + 64 * c) (r .next) ⌝ }
-{
-    let from = zone.from;
-    let t = stage::target_from(staging, count, from + 64 * c, next);
-    let m = meet_before(pool, staging, count, zone, c, after, t);
-    Step {
-        cells: m.cells,
-        free: m.free,
-        next: t,
-    }
-}
-
 // The free cells of a run that was met.
 fn free_cells(cells: usize, free: bool) -> usize
     ensures { λ r. ⌜ r ≡ freeOf cells free ⌝ }
@@ -137,47 +98,44 @@ fn free_cells(cells: usize, free: bool) -> usize
     if free { cells } else { 0 }
 }
 
-// Whether a zone is unbroken from cell `from` on, behind a free run or not, where no entry has a target from there on below `place`.
+// Whether a zone is unbroken from cell `from` on, behind a free run or not.
 pub fn whole_from(
     pool: &[u8],
     staging: &[u8],
+    index: &[u8],
     count: usize,
     zone: Zone,
     from: usize,
     behind: bool,
-    place: usize,
 ) -> bool
-    requires { ⌜ Staged (now pool) (now staging) count × Zoned (now pool) (zone .from) (zone .cells) × (from ≤ zone .cells) × Clear (now staging) count (zone .from + 64 * from) place ⌝ }
+    requires { ⌜ Staged (now pool) (now staging) count × Zoned (now pool) (zone .from) (zone .cells) × (from ≤ zone .cells) × Indexed (now index) (now staging) count ⌝ }
     ensures { λ r. ⌜ r ≡ walkOn behind (restOf (seen (now (pool .entry)) (now (staging .entry)) count) (zone .from) (zone .cells) from) .whole ⌝ }
 {
     let cells = zone.cells;
     let mut c = from;
     let mut after = behind;
-    let mut next = place;
     while c < cells {
-        let m = advance(pool, staging, count, zone, c, after, next);
+        let m = meet(pool, staging, index, count, zone, c, after);
         let n = m.cells;
         if n == 0 {
             return false;
         }
         c += n;
         after = m.free;
-        next = m.next;
     }
     true
 }
 
 // The walk to cell `a`, or to the end of the run that covers it.
-fn walk_to(pool: &[u8], staging: &[u8], count: usize, zone: Zone, a: usize) -> Way
-    requires { ⌜ Staged (now pool) (now staging) count × Zoned (now pool) (zone .from) (zone .cells) × (a < zone .cells) ⌝ }
-    ensures { λ r. ⌜ Came (seen (now (pool .entry)) (now (staging .entry)) count) (now (staging .entry)) count (zone .from) (zone .cells) a (r .whole) (r .prior) (r .cell) (r .after) (r .next) ⌝ }
+fn walk_to(pool: &[u8], staging: &[u8], index: &[u8], count: usize, zone: Zone, a: usize) -> Way
+    requires { ⌜ Staged (now pool) (now staging) count × Zoned (now pool) (zone .from) (zone .cells) × (a < zone .cells) × Indexed (now index) (now staging) count ⌝ }
+    ensures { λ r. ⌜ Came (seen (now (pool .entry)) (now (staging .entry)) count) (zone .from) (zone .cells) a (r .whole) (r .prior) (r .cell) (r .after) ⌝ }
 {
     let mut prior = 0;
     let mut c = 0;
     let mut after = false;
-    let mut next = 0;
     while c < a {
-        let m = advance(pool, staging, count, zone, c, after, next);
+        let m = meet(pool, staging, index, count, zone, c, after);
         let n = m.cells;
         if n == 0 {
             return Way {
@@ -185,29 +143,26 @@ fn walk_to(pool: &[u8], staging: &[u8], count: usize, zone: Zone, a: usize) -> W
                 prior,
                 cell: c,
                 after,
-                next,
             };
         }
         prior = free_cells(n, m.free);
         c += n;
         after = m.free;
-        next = m.next;
     }
     Way {
         whole: true,
         prior,
         cell: c,
         after,
-        next,
     }
 }
 
 // The run of a zone that begins at cell `a`; the same walk judges the zone whole.
-pub fn locate(pool: &[u8], staging: &[u8], count: usize, zone: Zone, a: usize) -> Spot
-    requires { ⌜ Staged (now pool) (now staging) count × Zoned (now pool) (zone .from) (zone .cells) × (a < zone .cells) ⌝ }
+pub fn locate(pool: &[u8], staging: &[u8], index: &[u8], count: usize, zone: Zone, a: usize) -> Spot
+    requires { ⌜ Staged (now pool) (now staging) count × Zoned (now pool) (zone .from) (zone .cells) × (a < zone .cells) × Indexed (now index) (now staging) count ⌝ }
     ensures { λ r. ⌜ Located (seen (now (pool .entry)) (now (staging .entry)) count) (zone .from) (zone .cells) a (r .whole) (r .prior) (r .cells) (r .free) ⌝ }
 {
-    let w = walk_to(pool, staging, count, zone, a);
+    let w = walk_to(pool, staging, index, count, zone, a);
     if !w.whole {
         return Spot {
             whole: false,
@@ -219,13 +174,13 @@ pub fn locate(pool: &[u8], staging: &[u8], count: usize, zone: Zone, a: usize) -
     let c = w.cell;
     if a < c {
         return Spot {
-            whole: whole_from(pool, staging, count, zone, c, w.after, w.next),
+            whole: whole_from(pool, staging, index, count, zone, c, w.after),
             prior: 0,
             cells: 0,
             free: false,
         };
     }
-    let m = advance(pool, staging, count, zone, c, w.after, w.next);
+    let m = meet(pool, staging, index, count, zone, c, w.after);
     let n = m.cells;
     if n == 0 {
         return Spot {
@@ -236,7 +191,7 @@ pub fn locate(pool: &[u8], staging: &[u8], count: usize, zone: Zone, a: usize) -
         };
     }
     Spot {
-        whole: whole_from(pool, staging, count, zone, c + n, m.free, m.next),
+        whole: whole_from(pool, staging, index, count, zone, c + n, m.free),
         prior: w.prior,
         cells: n,
         free: m.free,
@@ -244,26 +199,42 @@ pub fn locate(pool: &[u8], staging: &[u8], count: usize, zone: Zone, a: usize) -
 }
 
 // The free cells from cell `c` on.
-fn lead(pool: &[u8], staging: &[u8], count: usize, zone: Zone, c: usize, after: bool) -> usize
-    requires { ⌜ Staged (now pool) (now staging) count × Zoned (now pool) (zone .from) (zone .cells) × (c ≤ zone .cells) × (walkOn after (restOf (seen (now pool) (now staging) count) (zone .from) (zone .cells) c) .whole ≡ true) ⌝ }
+fn lead(
+    pool: &[u8],
+    staging: &[u8],
+    index: &[u8],
+    count: usize,
+    zone: Zone,
+    c: usize,
+    after: bool,
+) -> usize
+    requires { ⌜ Staged (now pool) (now staging) count × Zoned (now pool) (zone .from) (zone .cells) × (c ≤ zone .cells) × (walkOn after (restOf (seen (now pool) (now staging) count) (zone .from) (zone .cells) c) .whole ≡ true) × Indexed (now index) (now staging) count ⌝ }
     ensures { λ r. ⌜ Lead (seen (now (pool .entry)) (now (staging .entry)) count) (zone .from) (zone .cells) c after r ⌝ }
 {
     let cells = zone.cells;
     if cells <= c {
         return 0;
     }
-    let m = meet(pool, staging, count, zone, c, after);
+    let m = meet(pool, staging, index, count, zone, c, after);
     free_cells(m.cells, m.free)
 }
 
 // The run at cell `a` of an unbroken zone, located, with the free runs before and behind it.
-pub fn joined(pool: &[u8], staging: &[u8], count: usize, zone: Zone, a: usize, s: Spot) -> Place
-    requires { ⌜ Staged (now pool) (now staging) count × Zoned (now pool) (zone .from) (zone .cells) × (a < zone .cells) × (walkOf (seen (now pool) (now staging) count) (zone .from) (zone .cells) .whole ≡ true) × (runAt a 0 (walkOf (seen (now pool) (now staging) count) (zone .from) (zone .cells) .runs) ≡ none → ⊥) × Spotted (seen (now pool) (now staging) count) (zone .from) (zone .cells) a (s .prior) (s .cells) (s .free) ⌝ }
+pub fn joined(
+    pool: &[u8],
+    staging: &[u8],
+    index: &[u8],
+    count: usize,
+    zone: Zone,
+    a: usize,
+    s: Spot,
+) -> Place
+    requires { ⌜ Staged (now pool) (now staging) count × Zoned (now pool) (zone .from) (zone .cells) × (a < zone .cells) × (walkOf (seen (now pool) (now staging) count) (zone .from) (zone .cells) .whole ≡ true) × (runAt a 0 (walkOf (seen (now pool) (now staging) count) (zone .from) (zone .cells) .runs) ≡ none → ⊥) × Spotted (seen (now pool) (now staging) count) (zone .from) (zone .cells) a (s .prior) (s .cells) (s .free) × Indexed (now index) (now staging) count ⌝ }
     ensures { λ r. ⌜ Joined (seen (now (pool .entry)) (now (staging .entry)) count) (zone .from) (zone .cells) a (r .cell) (r .count) ⌝ }
 {
     let n = s.cells;
     let prior = s.prior;
-    let b = lead(pool, staging, count, zone, a + n, s.free);
+    let b = lead(pool, staging, index, count, zone, a + n, s.free);
     Place {
         cell: a - prior,
         count: prior + (n + b),

@@ -68,9 +68,10 @@ fn put_judged(pool: &[u8], out: &mut [u8], at: usize, z: usize, c: usize, place:
     requires { ⌜ Room at z c × Staged (now pool) [] 0 × (place % 8 ≡ 0) × ObjectThere (now pool) place ⌝ }
     ensures { λ r. ⌜ Put 64 (now (out .entry)) at (runLine z c (objectRun (now (pool .entry)) place (part 16 place (now (pool .entry))))) (now (out .exit)) r ⌝ }
 {
-    let h = heads::read_head(pool, &pool[0..0], 0, place);
+    let none = &pool[0..0];
+    let h = heads::read_head(pool, none, none, 0, place);
     let m = h.body();
-    let good = objects::intact(pool, &pool[0..0], 0, h, place, m);
+    let good = objects::intact(pool, none, none, 0, h, place, m);
     put_object(out, at, z, c, h.tag(), m, good)
 }
 
@@ -87,7 +88,8 @@ fn put_run(
     requires { ⌜ Room at z c × Staged (now pool) [] 0 × Zoned (now pool) (zone .from) (zone .cells) × (c < zone .cells) × (zone .cells < 65536) ⌝ }
     ensures { λ r. ⌜ Lined (now (pool .entry)) (zone .from) (zone .cells) z c after (now (out .entry)) at (now (out .exit)) (r .end) (r .cells) (r .free) ⌝ }
 {
-    let m = runs::meet(pool, &pool[0..0], 0, zone, c, after);
+    let none = &pool[0..0];
+    let m = runs::meet(pool, none, none, 0, zone, c, after);
     let n = m.cells;
     let free = m.free;
     if n == 0 {

@@ -40,8 +40,9 @@ fn damaged_at(pool: &[u8], at: usize, free: bool) -> bool
     if free {
         return false;
     }
-    let h = heads::read_head(pool, &pool[0..0], 0, at);
-    !objects::intact(pool, &pool[0..0], 0, h, at, h.body())
+    let none = &pool[0..0];
+    let h = heads::read_head(pool, none, none, 0, at);
+    !objects::intact(pool, none, none, 0, h, at, h.body())
 }
 
 // One pass over a zone: runs before a break count.
@@ -56,7 +57,8 @@ fn count_zone(pool: &[u8], zone: Zone) -> Tally
     let mut c = 0;
     let mut after = false;
     while c < cells {
-        let m = runs::meet(pool, &pool[0..0], 0, zone, c, after);
+        let none = &pool[0..0];
+        let m = runs::meet(pool, none, none, 0, zone, c, after);
         let n = m.cells;
         if n == 0 {
             return Tally {

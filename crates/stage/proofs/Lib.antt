@@ -2,4 +2,4 @@ pub mod Entries
 pub mod View
 pub mod Touched
 pub mod Counted
-pub mod Clear
+pub mod Index

@@ -1,3 +1,3 @@
 pub mod View
 pub mod Touched
-pub mod Clear
+pub mod Index

@@ -29,16 +29,6 @@ unfoldable pub missing : ℕ → ℕ → List Store → ℕ
 missing zero o es = 0
 missing (suc n) o es = added o es + missing n (o + 8) es
 
--- 1 where t is the offset of one of the n words from offset o on, else 0.
-unfoldable pub wordIn : ℕ → ℕ → ℕ → ℕ
-wordIn zero o t = 0
-wordIn (suc n) o t = cond (eqb t o) 1 (wordIn n (o + 8) t)
-
--- How many entries have one of these words as target.
-unfoldable pub entriesIn : ℕ → ℕ → List Store → ℕ
-entriesIn n o [] = 0
-entriesIn n o (x ∷ xs) = wordIn n o (x .at) + entriesIn n o xs
-
 -- Staging memory st with n entries has room for the k words from offset o on; those that have an entry take none.
 pub record Room (st : List ℕ) (n k o : ℕ) : Type 0 where
   pub held : 16 * (n + missing k o (entriesOf st n)) ≤ length st

@@ -6,9 +6,9 @@ ghost use Prim.Native.Nat.{_+_, _*_, _%_, _^_, _≤_, _<_};
 ghost use lib.ListN.{length};
 ghost use Rattle.rules.specs.Staging.{Tidy};
 ghost use Rattle.rules.specs.Words.{digits};
-ghost use Rattle.stage.specs.Clear.{Clear, Lowered};
+ghost use Rattle.stage.specs.Index.{markCount, markOf, Blank, Indexed};
 ghost use Rattle.stage.specs.View.{entriesOf, seen, Reads, Staged};
-ghost use Rattle.stage.specs.Touched.{added, entriesIn, missing, wordIn, Room, Slot, Touched, TouchedWords};
+ghost use Rattle.stage.specs.Touched.{added, missing, Room, Slot, Touched, TouchedWords};
 
 // The place of the entry for `target`, or `count` where there is none.
 pub fn entry_index(staging: &[u8], count: usize, target: u64) -> usize
@@ -25,17 +25,70 @@ pub fn entry_index(staging: &[u8], count: usize, target: u64) -> usize
     i
 }
 
-// The word at `at`, as staged.
-pub fn staged_word(pool: &[u8], staging: &[u8], count: usize, at: usize) -> u64
-    requires { ⌜ Staged (now pool) (now staging) count × (at % 8 ≡ 0) × (at + 8 ≤ length (now pool)) ⌝ }
+// The marks that targets share.
+pub const MARKS: usize = 512;
+
+// The bytes of an index.
+pub const INDEX: usize = 640;
+
+// The mark of the target `t`, by Fibonacci hashing of its word's number: words in a row and heads at even distances seldom share one.
+pub fn mark_of(t: u64) -> usize
+    ensures { λ r. ⌜ (r ≡ markOf t) × (r < markCount) ⌝ }
+{
+    t as usize / 8 % 65536 * 40503 / 128 % MARKS
+}
+
+// Fills an index of zeros with the entries: one pass, so that each of them is found by its target's mark.
+pub fn fill_index(index: &mut [u8], staging: &[u8], count: usize)
+    requires { ⌜ Blank (now index) × (count ≤ 127) × (16 * count ≤ length (now staging)) ⌝ }
+    ensures { λ _. ⌜ Indexed (now (index .exit)) (now (staging .entry)) count ⌝ }
+{
+    let mut i = 0;
+    while i < count {
+        let k = mark_of(words::load64(staging, 16 * i));
+        index[MARKS + i] = index[k];
+        i += 1;
+        index[k] = i as u8;
+    }
+}
+
+// The place of the entry for `target`, or `count` where there is none, by the index.
+fn find(staging: &[u8], index: &[u8], count: usize, target: u64) -> usize
+    requires { ⌜ (16 * count ≤ length (now staging)) × Tidy (entriesOf (now staging) count) × Indexed (now index) (now staging) count ⌝ }
+    ensures { λ r. ⌜ Slot (now (staging .entry)) count target r ⌝ }
+{
+    if count == 0 {
+        return 0;
+    }
+    let mut p = index[mark_of(target)] as usize;
+    while 0 < p {
+        if words::load64(staging, 16 * (p - 1)) == target {
+            return p - 1;
+        }
+        p = index[MARKS + (p - 1)] as usize;
+    }
+    count
+}
+
+// The word at `at`, as staged, whose entry stands at `i`.
+fn word_in_slot(pool: &[u8], staging: &[u8], count: usize, at: usize, i: usize) -> u64
+    requires { ⌜ Staged (now pool) (now staging) count × (at % 8 ≡ 0) × (at + 8 ≤ length (now pool)) × Slot (now staging) count at i ⌝ }
     ensures { λ r. ⌜ Reads (seen (now (pool .entry)) (now (staging .entry)) count) at r ⌝ }
 {
-    let i = entry_index(staging, count, at as u64);
     if i < count {
         words::load64(staging, 16 * i + 8)
     } else {
         words::load64(pool, at)
     }
+}
+
+// The word at `at`, as staged.
+pub fn staged_word(pool: &[u8], staging: &[u8], index: &[u8], count: usize, at: usize) -> u64
+    requires { ⌜ Staged (now pool) (now staging) count × (at % 8 ≡ 0) × (at + 8 ≤ length (now pool)) × Indexed (now index) (now staging) count ⌝ }
+    ensures { λ r. ⌜ Reads (seen (now (pool .entry)) (now (staging .entry)) count) at r ⌝ }
+{
+    let i = find(staging, index, count, at as u64);
+    word_in_slot(pool, staging, count, at, i)
 }
 
 // The word at `at`, as staged; it has no entry where `fresh`.
@@ -46,42 +99,8 @@ pub fn known_word(pool: &[u8], staging: &[u8], count: usize, at: usize, fresh: b
     if fresh {
         return words::load64(pool, at);
     }
-    staged_word(pool, staging, count, at)
-}
-
-// `t` where it is from `from` on and lower than `best`, else `best`.
-fn lower(from: usize, best: usize, t: usize) -> usize
-    ensures { λ r. ⌜ Lowered from best t r ⌝ }
-{
-    if t < from {
-        return best;
-    }
-    if t < best { t } else { best }
-}
-
-// The lowest target from `from` on; the highest number where there is none.
-pub fn next_target(staging: &[u8], count: usize, from: usize) -> usize
-    requires { ⌜ 16 * count ≤ length (now staging) ⌝ }
-    ensures { λ r. ⌜ Clear (now (staging .entry)) count from r ⌝ }
-{
-    let mut best = 18446744073709551615;
-    let mut i = 0;
-    while i < count {
-        best = lower(from, best, words::load64(staging, 16 * i) as usize);
-        i += 1;
-    }
-    best
-}
-
-// The lowest target from `from` on, where none was found from `from` on below `next`; the entries are asked only where `next` lies before `from`.
-pub fn target_from(staging: &[u8], count: usize, from: usize, next: usize) -> usize
-    requires { ⌜ (16 * count ≤ length (now staging)) × Clear (now staging) count from next ⌝ }
-    ensures { λ r. ⌜ Clear (now (staging .entry)) count from r ⌝ }
-{
-    if from <= next {
-        return next;
-    }
-    next_target(staging, count, from)
+    let i = entry_index(staging, count, at as u64);
+    word_in_slot(pool, staging, count, at, i)
 }
 
 // Adds an entry for the word at `target`, which has none; the number of entries then.
@@ -134,52 +153,27 @@ pub fn touch_head(
     touch_known(staging, n, target + 8, second, fresh)
 }
 
-// 1 where `target` is the offset of one of the `n` words from `from` on, else 0.
-fn word_in(target: u64, from: u64, n: usize) -> usize
-    requires { ⌜ from + 8 * n < 2 ^ 64 ⌝ }
-    ensures { λ r. ⌜ (r ≡ wordIn n from target) × (r ≤ 1) ⌝ }
+// 1 where the word at `target` has no entry yet, else 0.
+fn word_fresh(staging: &[u8], index: &[u8], count: usize, target: u64) -> usize
+    requires { ⌜ (16 * count ≤ length (now staging)) × Tidy (entriesOf (now staging) count) × Indexed (now index) (now staging) count ⌝ }
+    ensures { λ r. ⌜ (r ≡ added target (entriesOf (now (staging .entry)) count)) × (r ≤ 1) ⌝ }
 {
-    if target < from {
-        return 0;
-    }
-    if 8 * (n as u64) <= target - from {
-        return 0;
-    }
-    if (target - from) % 8 != 0 {
+    if find(staging, index, count, target) < count {
         return 0;
     }
     1
 }
 
-// How many entries have one of the `n` words from `from` on as target.
-fn entries_in(staging: &[u8], count: usize, from: u64, n: usize) -> usize
-    requires { ⌜ (16 * count ≤ length (now staging)) × (from + 8 * n < 2 ^ 64) ⌝ }
-    ensures { λ r. ⌜ (r ≡ entriesIn n from (entriesOf (now (staging .entry)) count)) × (r ≤ count) ⌝ }
+// How many of the `n` words from `from` on have no entry yet.
+pub fn fresh_words(staging: &[u8], index: &[u8], count: usize, from: u64, n: usize) -> usize
+    requires { ⌜ (16 * count ≤ length (now staging)) × Tidy (entriesOf (now staging) count) × Indexed (now index) (now staging) count × (from + 8 * n < 2 ^ 64) ⌝ }
+    ensures { λ r. ⌜ (r ≡ missing n from (entriesOf (now (staging .entry)) count)) × (r ≤ n) ⌝ }
 {
     let mut sum = 0;
     let mut i = 0;
-    while i < count {
-        sum += word_in(words::load64(staging, 16 * i), from, n);
+    while i < n {
+        sum += word_fresh(staging, index, count, from + 8 * (i as u64));
         i += 1;
     }
     sum
-}
-
-// Whether none of the `n` words from `from` on has an entry yet, which may be known before.
-pub fn all_fresh(staging: &[u8], count: usize, from: u64, n: usize, known: bool) -> bool
-    requires { ⌜ (16 * count ≤ length (now staging)) × (from + 8 * n < 2 ^ 64) × (known ≡ true → missing n from (entriesOf (now staging) count) ≡ n) ⌝ }
-    ensures { λ r. ⌜ (r ≡ true → missing n from (entriesOf (now (staging .entry)) count) ≡ n) ⌝ }
-{
-    if known {
-        return true;
-    }
-    entries_in(staging, count, from, n) == 0
-}
-
-// How many of the `n` words from `from` on have no entry yet.
-pub fn fresh_words(staging: &[u8], count: usize, from: u64, n: usize) -> usize
-    requires { ⌜ (16 * count ≤ length (now staging)) × (from + 8 * n < 2 ^ 64) × Tidy (entriesOf (now staging) count) ⌝ }
-    ensures { λ r. ⌜ (r ≡ missing n from (entriesOf (now (staging .entry)) count)) × (r ≤ n) ⌝ }
-{
-    n - entries_in(staging, count, from, n)
 }

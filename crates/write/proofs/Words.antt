@@ -1,21 +1,23 @@
 -- The words that a write touches: room for them, how many entries stand there then, and what they are. Assumes nothing.
-use Prim.Native.Nat.{ℕ, _+_, _*_, _%_, _^_, _≤_, _<_}
-use mathlib.Core.Path.{_≡_, sym, ap, _∙_}
+use Prim.Native.Nat.{ℕ, _+_, _*_, _/_, _%_, _^_, _≤_, _<_}
+use mathlib.Core.Path.{_≡_, sym, ap, ap₂, _∙_}
 use mathlib.Core.List.{List}
 use native.Mathlib.Omega.{arith}
 use lib.ListN.{length, take, drop}
 use lib.Seq.{sets}
 use Rattle.rules.specs.Words.{digits, put}
+use Rattle.rules.specs.Shape.{entryLimit, stagingSize}
 use Rattle.rules.specs.Runs.{checkWord}
 use Rattle.rules.specs.Staging.{Store, touch, touchRange, touchWords, wordCount, wordFrom}
 use Rattle.rules.specs.Plan.{touchWrite}
 use Rattle.rules.proofs.Staging.{tidy-touch}
 use Rattle.stage.specs.View.{Staged, entriesOf, part, seen}
-use Rattle.stage.specs.Touched.{Room, Touched, missing}
+use Rattle.stage.specs.Touched.{Room, Touched, added, missing}
+use Rattle.stage.proofs.Counted.{fresh-first}
 use Rattle.stage.proofs.Entries.{length-entries}
 use Rattle.stage.proofs.Touched.{digits-read, grown-twice, length-words, missing-words, room-count}
 use Rattle.stage.proofs.View.{length-seen}
-use Rattle.overwrite.specs.Range.{RangeRoom, RangeTouched}
+use Rattle.overwrite.specs.Range.{RangeFresh, RangeRoom, RangeTouched}
 use Rattle.overwrite.proofs.Ranging.{seen-touched}
 use Rattle.write.specs.Writing.{Range, WriteRoom, Written, addedBy}
 
@@ -33,6 +35,26 @@ length-write v h b o xs es e =
     let c = length-words 1 (h + 8) w es in
     let d = missing-words 1 (h + 8) w es k (wordFrom p) (range-behind h o e) in
     length-words k (wordFrom p) (take (8 * k) (drop (wordFrom p) (sets (sets v (h + 8) w) p xs))) (touchWords 1 (h + 8) w es) ∙ omega arith
+
+-- ---- the words that have no entry yet, counted: a of the check's, b of the range's
+
+module _ (st : List ℕ) (n h o k : ℕ) {a b : ℕ} (e : a ≡ missing 1 (h + 8) (entriesOf st n))
+    (f : b ≡ missing (((h + (16 + o)) % 8 + k + 7) / 8) ((h + (16 + o)) / 8 * 8) (entriesOf st n)) where
+  pub count-added : a + b ≡ addedBy h o k (entriesOf st n)
+  unfolding addedBy wordCount wordFrom
+  count-added = ap₂ _+_ e f
+
+  pub count-room : stagingSize ≤ length st → n + (a + b) ≤ entryLimit → WriteRoom st n h o k
+  count-room l q = let c = count-added in record { held = omega arith }
+
+  pub count-first : a ≡ 1 → added (h + 8) (entriesOf st n) ≡ 1
+  count-first q = fresh-first 0 (h + 8) (entriesOf st n) (sym e ∙ q)
+
+  pub count-range : b ≡ ((h + (16 + o)) % 8 + k + 7) / 8 → RangeFresh st n (h + (16 + o)) k
+  unfolding wordCount wordFrom
+  count-range q = record { all = sym f ∙ q }
+
+-- ---- the words touched
 
 pub check-room : {st : List ℕ} {n h o k : ℕ} → WriteRoom st n h o k → Room st n 1 (h + 8)
 unfolding addedBy
@@ -56,6 +78,12 @@ module _ {st st′ : List ℕ} {n n′ w : ℕ} (h : ℕ) (l : w < 2 ^ 64) (t : 
       let q : missing j (wordFrom p) (entriesOf st′ n′) ≡ missing j (wordFrom p) (entriesOf st n) =
       ap (missing j (wordFrom p)) check-entries ∙ missing-words 1 (h + 8) (digits 8 w) (entriesOf st n) j (wordFrom p) (range-behind h o e) in
       record { held = rw (t .grown .long) (let a = r .held in omega arith) }
+
+  -- and those of the range have none still
+  pub range-fresh : (o : ℕ) {k : ℕ} → h % 8 ≡ 0 → RangeFresh st n (h + (16 + o)) k → RangeFresh st′ n′ (h + (16 + o)) k
+  range-fresh o {k} e f =
+      let p : ℕ = h + (16 + o) in
+      record { all = ap (missing (wordCount p k) (wordFrom p)) check-entries ∙ missing-words 1 (h + 8) (digits 8 w) (entriesOf st n) (wordCount p k) (wordFrom p) (range-behind h o e) ∙ f .all }
 
   module _ {pool : List ℕ} (s : Staged pool st n) {m o k : ℕ} (g : Range (seen pool st n) h m o k) where
     pub range-ready : WriteRoom st n h o k → Staged pool st′ n′ × RangeRoom pool st′ n′ (h + (16 + o)) k

@@ -6,6 +6,7 @@ ghost use lib.Dec.{leb};
 ghost use Rattle.rules.specs.Shape.{zoneCells};
 ghost use Rattle.rules.specs.Zones.{headAt};
 ghost use Rattle.rules.specs.Plan.{search as searchFrom};
+ghost use Rattle.stage.specs.Index.{Indexed};
 ghost use Rattle.stage.specs.View.{seen, Staged};
 ghost use Rattle.layout.specs.Meaning.{shapeOf, InRange, Shaped};
 ghost use Rattle.zones.specs.Body.{Within, lookIn, lookOf};
@@ -50,8 +51,8 @@ fn fits(cells: usize, free: bool, k: usize) -> bool
 
 // The lowest zone's lowest free run of `k` cells or more. Each zone is judged whole by the one walk that searches it; the first run that
 // fits leaves both loops, once the rest of its zone is judged.
-pub fn search(pool: &[u8], staging: &[u8], count: usize, s: Shape, k: usize) -> Found
-    requires { ⌜ Staged (now pool) (now staging) count × Shaped (now pool) (shapeOf s) ⌝ }
+pub fn search(pool: &[u8], staging: &[u8], index: &[u8], count: usize, s: Shape, k: usize) -> Found
+    requires { ⌜ Staged (now pool) (now staging) count × Shaped (now pool) (shapeOf s) × Indexed (now index) (now staging) count ⌝ }
     ensures { λ r. ⌜ foundOf r ≡ searchFrom (shapeOf s) (seen (now (pool .entry)) (now (staging .entry)) count) k 0 (s .zones) ⌝ }
 {
     let zones = s.zones;
@@ -62,23 +63,21 @@ pub fn search(pool: &[u8], staging: &[u8], count: usize, s: Shape, k: usize) -> 
         let place = zone(s, z);
         let cells = place.cells;
         let mut after = false;
-        let mut next = 0;
         c = 0;
         while c < cells {
-            let m = runs::advance(pool, staging, count, place, c, after, next);
+            let m = runs::meet(pool, staging, index, count, place, c, after);
             n = m.cells;
             if n == 0 {
                 return Found::Refused(23);
             }
             if fits(n, m.free, k) {
-                if !runs::whole_from(pool, staging, count, place, c + n, m.free, m.next) {
+                if !runs::whole_from(pool, staging, index, count, place, c + n, m.free) {
                     return Found::Refused(23);
                 }
                 break 'search;
             }
             c += n;
             after = m.free;
-            next = m.next;
         }
         z += 1;
     }
@@ -90,8 +89,8 @@ pub fn search(pool: &[u8], staging: &[u8], count: usize, s: Shape, k: usize) -> 
 }
 
 // The cell at the cell address `a`, located in its zone; nothing is told of an address past the zones.
-pub fn spot_at(pool: &[u8], staging: &[u8], count: usize, s: Shape, a: usize) -> Spot
-    requires { ⌜ Staged (now pool) (now staging) count × Shaped (now pool) (shapeOf s) ⌝ }
+pub fn spot_at(pool: &[u8], staging: &[u8], index: &[u8], count: usize, s: Shape, a: usize) -> Spot
+    requires { ⌜ Staged (now pool) (now staging) count × Shaped (now pool) (shapeOf s) × Indexed (now index) (now staging) count ⌝ }
     ensures { λ r. ⌜ SpotAt (shapeOf s) (seen (now (pool .entry)) (now (staging .entry)) count) a (r .whole) (r .prior) (r .cells) (r .free) ⌝ }
 {
     let cells = s.cells();
@@ -103,12 +102,20 @@ pub fn spot_at(pool: &[u8], staging: &[u8], count: usize, s: Shape, a: usize) ->
             free: false,
         };
     }
-    runs::locate(pool, staging, count, zone(s, a / cells), a % cells)
+    runs::locate(pool, staging, index, count, zone(s, a / cells), a % cells)
 }
 
 // The object at the cell address `a`, located, or the first refusal of 5, 23, 24, 25.
-pub fn object_in(pool: &[u8], staging: &[u8], count: usize, s: Shape, a: usize, p: Spot) -> Named
-    requires { ⌜ Staged (now pool) (now staging) count × Shaped (now pool) (shapeOf s) × SpotAt (shapeOf s) (seen (now pool) (now staging) count) a (p .whole) (p .prior) (p .cells) (p .free) ⌝ }
+pub fn object_in(
+    pool: &[u8],
+    staging: &[u8],
+    index: &[u8],
+    count: usize,
+    s: Shape,
+    a: usize,
+    p: Spot,
+) -> Named
+    requires { ⌜ Staged (now pool) (now staging) count × Shaped (now pool) (shapeOf s) × SpotAt (shapeOf s) (seen (now pool) (now staging) count) a (p .whole) (p .prior) (p .cells) (p .free) × Indexed (now index) (now staging) count ⌝ }
     ensures { λ r. ⌜ NamesAt (shapeOf s) (seen (now (pool .entry)) (now (staging .entry)) count) a r ⌝ }
 {
     let cells = s.cells();
@@ -118,16 +125,31 @@ pub fn object_in(pool: &[u8], staging: &[u8], count: usize, s: Shape, a: usize, 
     if !p.whole {
         return Named::Refused(23);
     }
-    objects::in_zone(pool, staging, count, zone(s, a / cells), a % cells, p)
+    objects::in_zone(
+        pool,
+        staging,
+        index,
+        count,
+        zone(s, a / cells),
+        a % cells,
+        p,
+    )
 }
 
 // The object at the cell address `a`, or the first refusal of 5, 23, 24, 25.
-pub fn object_at(pool: &[u8], staging: &[u8], count: usize, s: Shape, a: usize) -> Named
-    requires { ⌜ Staged (now pool) (now staging) count × Shaped (now pool) (shapeOf s) ⌝ }
+pub fn object_at(
+    pool: &[u8],
+    staging: &[u8],
+    index: &[u8],
+    count: usize,
+    s: Shape,
+    a: usize,
+) -> Named
+    requires { ⌜ Staged (now pool) (now staging) count × Shaped (now pool) (shapeOf s) × Indexed (now index) (now staging) count ⌝ }
     ensures { λ r. ⌜ NamesAt (shapeOf s) (seen (now (pool .entry)) (now (staging .entry)) count) a r ⌝ }
 {
-    let p = spot_at(pool, staging, count, s, a);
-    object_in(pool, staging, count, s, a, p)
+    let p = spot_at(pool, staging, index, count, s, a);
+    object_in(pool, staging, index, count, s, a, p)
 }
 
 // Where the head of the object at the cell address `a` lies.
@@ -144,7 +166,8 @@ pub fn body_at(pool: &[u8], s: Shape, a: usize) -> Body
     requires { ⌜ Shaped (now pool) (shapeOf s) ⌝ }
     ensures { λ r. ⌜ (lookOf r ≡ lookIn (shapeOf s) (now (pool .entry)) a) × Within (now (pool .entry)) r ⌝ }
 {
-    match object_at(pool, &pool[0..0], 0, s, a) {
+    let none = &pool[0..0];
+    match object_at(pool, none, none, 0, s, a) {
         Named::Refused(n) => Body::Refused(n),
         Named::Object(_, m, _) => Body::At(head_at(s, a) + 16, m),
     }

@@ -3,7 +3,7 @@ use borrow.Author.Needs.{needs}
 use Prim.Native.Nat.{_-_, _≤_}
 use Rattle.stage.specs.Touched.{TouchedWords}
 use Rattle.stage.proofs.Counted.{fresh-next}
-use Rattle.stage.proofs.Touched.{room-count, touched-none}
+use Rattle.stage.proofs.Touched.{touched-none}
 use Rattle.allocate.proofs.Body.{touched-word}
 use Rattle.allocate.proofs.Rows.{room-within, touched-whole}
 use native.Mathlib.Omega.{arith}
@@ -11,13 +11,10 @@ use Rattle.allocate.proofs.touch_body.Statement.{statement}
 use Rattle.allocate.proofs.touch_body.Tie as tie
 
 abbrev Inv-loop : tie.InvT-loop
-Inv-loop staging₀ count target words body known fresh n₀ i₀ staging n i = (i ≤ words) × TouchedWords staging₀ count i target body staging n
+Inv-loop staging₀ count target words body fresh n₀ i₀ staging n i = (i ≤ words) × TouchedWords staging₀ count i target body staging n
 
 abbrev μ-loop : tie.MeasureT-loop
-μ-loop staging₀ count target words body known fresh n₀ i₀ staging n i = words - i
-
-all-fresh-requires : tie.Need-all-fresh-requires Inv-loop μ-loop
-all-fresh-requires c κs = let s = c .before .before .before in (room-count (s .pre .0), search needs, s .pre .3)
+μ-loop staging₀ count target words body fresh n₀ i₀ staging n i = words - i
 
 loop-holds : tie.Need-loop-holds Inv-loop μ-loop
 loop-holds c = (omega arith, touched-none _ _ _ _)
@@ -26,7 +23,7 @@ touch-known-requires : tie.Need-touch-known-requires Inv-loop μ-loop
 touch-known-requires c κs =
     let t = c .before .before in
     let l = t .before in
-    (room-within (l .before .before .before .before .before .pre .0) (t .loop-test .taken) (l .loop .inv .1), λ f. fresh-next (l .before .all-fresh .ensures f) (t .loop-test .taken) (l .loop .inv .1) (omega arith))
+    (room-within (l .before .before .before .pre .0) (t .loop-test .taken) (l .loop .inv .1), λ f. fresh-next (l .before .before .before .pre .3 f) (t .loop-test .taken) (l .loop .inv .1) (omega arith))
 
 loop-again : tie.Need-loop-again Inv-loop μ-loop
 loop-again c =
@@ -42,7 +39,6 @@ touch-body-spec =
     (tie.spec
     Inv-loop
     μ-loop
-    all-fresh-requires
     loop-holds
     (λ c. search needs)
     (λ c κs. search needs)

@@ -1,5 +1,7 @@
 -- `allocate::touch_object` meets its contract. Assumes nothing.
-use Rattle.allocate.proofs.Placed.{cells-some, fresh-body, fresh-head, room-body, room-head, touched-object}
+use Rattle.allocate.proofs.Placed.{cells-some, room-body, room-head, touched-object}
+use Rattle.allocate.proofs.Rows.{fresh-after}
+use native.Mathlib.Omega.{arith}
 use borrow.Author.Needs.{needs}
 use Rattle.allocate.proofs.touch_object.Statement.{statement}
 use Rattle.allocate.proofs.touch_object.Tie as tie
@@ -7,7 +9,7 @@ use Rattle.allocate.proofs.touch_object.Tie as tie
 touch-head-requires : tie.Need-touch-head-requires
 touch-head-requires c κs =
     let s = c .before .before .before .before .before in
-    (room-head _ (s .pre .0) (c .before .cells-for .ensures .0), search needs, λ f. fresh-head _ _ _ _ (s .pre .3 f) (c .before .cells-for .ensures .0))
+    (room-head _ (s .pre .0) (c .before .cells-for .ensures .0), search needs, s .pre .3)
 
 sub-touch-body : tie.Need-sub-touch-body
 sub-touch-body c = let h = cells-some _ (c .before .before .before .before .before .cells-for .ensures .0) in search needs
@@ -15,7 +17,7 @@ sub-touch-body c = let h = cells-some _ (c .before .before .before .before .befo
 touch-body-requires : tie.Need-touch-body-requires
 touch-body-requires c κs =
     let k = c .before .before .before .before .before in
-    (room-body _ (k .before .before .before .before .pre .0) (k .cells-for .ensures .0) (c .before .before .before .touch-head .ensures), search needs, search needs, λ f. fresh-body _ _ _ _ (k .before .before .before .before .pre .3 f) (k .cells-for .ensures .0) (c .before .before .before .touch-head .ensures))
+    (room-body _ (k .before .before .before .before .pre .0) (k .cells-for .ensures .0) (c .before .before .before .touch-head .ensures), search needs, search needs, λ f. fresh-after _ _ (rw (k .cells-for .ensures .0) (k .before .before .before .before .pre .4 f)) (c .before .before .before .touch-head .ensures) (omega arith))
 
 returns : tie.Need-returns
 returns c =

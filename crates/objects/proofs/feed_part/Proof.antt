@@ -11,23 +11,20 @@ use Rattle.objects.proofs.feed_part.Statement.{statement}
 use Rattle.objects.proofs.feed_part.Tie as tie
 
 abbrev Inv-loop : tie.InvT-loop
-Inv-loop pool staging count from n sums₀ at₀ left₀ sums at left =
+Inv-loop pool staging index count from n sums₀ at₀ left₀ sums at left =
     (at % 8 ≡ 0) × (at + left ≤ length pool) × Feeding (sums₀ .low) (sums₀ .high) (seen pool staging count) from n (sums .low) (sums .high) at left
 
 abbrev μ-loop : tie.MeasureT-loop
-μ-loop pool staging count from n sums₀ at₀ left₀ sums at left = left
-
-next-target-requires : tie.Need-next-target-requires Inv-loop μ-loop
-next-target-requires c κs = omega (arith, c .before .before .pre .0 .room)
+μ-loop pool staging index count from n sums₀ at₀ left₀ sums at left = left
 
 returns : tie.Need-returns Inv-loop μ-loop
-returns c = let s = c .before .before .before .before .before .before in fed-pool (s .args .n) (s .pre .0) (s .pre .1) (c .before .before .if1 .taken) (c .before .before .before .next-target .ensures) (c .feed .ensures)
+returns c = fed-pool _ _ _ _ (c .before .before .if1 .taken) (c .feed .ensures)
 
 loop-holds : tie.Need-loop-holds Inv-loop μ-loop
 loop-holds c = let s = c .before .before .before .before in (s .pre .1, s .pre .2, feeding-start _ _ _ (s .pre .3))
 
 staged-word-requires : tie.Need-staged-word-requires Inv-loop μ-loop
-staged-word-requires c κs = let s = c .before .before .before .before .before .before in (s .pre .0, c .before .loop .inv .0, omega arith)
+staged-word-requires c κs = let s = c .before .before .before .before .before .before in (s .pre .0, c .before .loop .inv .0, omega arith, s .pre .4)
 
 feed-word-requires : tie.Need-feed-word-requires Inv-loop μ-loop
 feed-word-requires c κs = (c .before .before .loop .inv .2 .below, omega arith)
@@ -39,7 +36,7 @@ returns-2 : tie.Need-returns-2 Inv-loop μ-loop
 returns-2 c = feeding-end (c .before .before .loop .inv .2) (c .if2 .taken)
 
 staged-word-requires-2 : tie.Need-staged-word-requires-2 Inv-loop μ-loop
-staged-word-requires-2 c κs = let s = c .before .before .before .before .before .before .before in (s .pre .0, c .before .before .loop .inv .0, omega (arith, s .pre .0 .words))
+staged-word-requires-2 c κs = let s = c .before .before .before .before .before .before .before in (s .pre .0, c .before .before .loop .inv .0, omega (arith, s .pre .0 .words), s .pre .4)
 
 feed-word-requires-2 : tie.Need-feed-word-requires-2 Inv-loop μ-loop
 feed-word-requires-2 c κs = (c .before .before .before .loop .inv .2 .below, omega arith)
@@ -57,8 +54,6 @@ feed-part-spec =
     (tie.spec
     Inv-loop
     μ-loop
-    (λ c. search needs)
-    next-target-requires
     (λ c. search needs)
     (λ c. search needs)
     (λ c. search needs)

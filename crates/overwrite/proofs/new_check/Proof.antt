@@ -3,34 +3,30 @@ use Prim.Native.Nat.{_-_}
 use lib.ListN.{length, length-drop}
 use Rattle.stage.specs.View.{seen}
 use Rattle.overwrite.proofs.Updated.{Checking, checking-start, checking-step, checking-end, rest-all}
-use Rattle.overwrite.proofs.Ranging.{fresh-within}
 use native.Mathlib.Omega.{arith}
 use borrow.Author.Needs.{needs}
 use Rattle.overwrite.proofs.new_check.Statement.{statement}
 use Rattle.overwrite.proofs.new_check.Tie as tie
 
 abbrev Inv-loop : tie.InvT-loop
-Inv-loop pool staging count check at left bytes fresh sum₀ i₀ sum i = Checking check left (seen pool staging count) at bytes sum i
+Inv-loop pool staging index count check at left bytes sum₀ i₀ sum i = Checking check left (seen pool staging count) at bytes sum i
 
 abbrev μ-loop : tie.MeasureT-loop
-μ-loop pool staging count check at left bytes fresh sum₀ i₀ sum i = length bytes - i
-
-range-fresh-requires : tie.Need-range-fresh-requires Inv-loop μ-loop
-range-fresh-requires c κs = let s = c .before .before .before in (s .pre .0 .room, omega (arith, s .pre .0 .words))
+μ-loop pool staging index count check at left bytes sum₀ i₀ sum i = length bytes - i
 
 loop-holds : tie.Need-loop-holds Inv-loop μ-loop
 loop-holds c = checking-start _ _ _ _ _
 
-known-word-requires : tie.Need-known-word-requires Inv-loop μ-loop
-known-word-requires c κs =
+staged-word-requires : tie.Need-staged-word-requires Inv-loop μ-loop
+staged-word-requires c κs =
     let s = c .before .before .before .before .before .before in
-    (s .pre .0, omega arith, omega (arith, s .pre .0 .words), λ f. fresh-within (c .before .before .range-fresh .ensures f) (c .loop-test .taken))
+    (s .pre .0, omega arith, omega (arith, s .pre .0 .words), s .pre .3)
 
 word-check-requires : tie.Need-word-check-requires Inv-loop μ-loop
 word-check-requires c κs = (omega arith, rw (rest-all _ _, length-drop _ _) (omega arith))
 
 loop-again : tie.Need-loop-again Inv-loop μ-loop
-loop-again c = checking-step (c .before .before .before .before .loop .inv) (c .before .before .known-word .ensures) (c .word-check .ensures)
+loop-again c = checking-step (c .before .before .before .before .loop .inv) (c .before .before .staged-word .ensures) (c .word-check .ensures)
 
 returns : tie.Need-returns Inv-loop μ-loop
 returns c = checking-end (c .before .loop .inv) (c .loop-test .left)
@@ -41,12 +37,11 @@ new-check-spec =
     (tie.spec
     Inv-loop
     μ-loop
-    range-fresh-requires
     loop-holds
     (λ c. search needs)
     (λ c. search needs)
     (λ c. search needs)
-    known-word-requires
+    staged-word-requires
     (λ c. search needs)
     (λ c. search needs)
     (λ c. search needs)

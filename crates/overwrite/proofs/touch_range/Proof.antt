@@ -16,15 +16,12 @@ Inv-loop pool staging₀ count at bytes fresh n₀ done₀ staging n done = Rang
 abbrev μ-loop : tie.MeasureT-loop
 μ-loop pool staging₀ count at bytes fresh n₀ done₀ staging n done = length bytes - done
 
-range-fresh-requires : tie.Need-range-fresh-requires Inv-loop μ-loop
-range-fresh-requires c κs = let s = c .before .before .before .before in (s .pre .0 .room, omega (arith, s .pre .0 .words, s .pre .1 .inside))
-
 loop-holds : tie.Need-loop-holds Inv-loop μ-loop
-loop-holds c = let s = c .before .before .before .before .before in (ranging-start _ (s .pre .0) (s .pre .1), λ f. fresh-start (c .range-fresh .ensures f))
+loop-holds c = let s = c .before .before .before in (ranging-start _ (s .pre .0) (s .pre .1), λ f. fresh-start (s .pre .2 f))
 
 known-word-requires : tie.Need-known-word-requires Inv-loop μ-loop
 known-word-requires c κs =
-    let s = c .before .before .before .before .before .before .before .before in
+    let s = c .before .before .before .before .before .before in
     let l = c .before .before .loop in
     (ranging-staged (s .pre .0) (l .inv .0), omega arith, omega (arith, s .pre .0 .words, s .pre .1 .inside), λ f. fresh-word (s .args .at) (l .inv .1 f) (c .before .loop-test .taken))
 
@@ -34,16 +31,16 @@ lay-word-requires c κs = omega arith
 touch-known-requires : tie.Need-touch-known-requires Inv-loop μ-loop
 touch-known-requires c κs =
     let t = c .before .before .before .before .before in
-    (ranging-room (t .before .loop .inv .0) (omega arith), λ f. fresh-word (t .before .before .before .before .before .before .before .args .at) (t .before .loop .inv .1 f) (t .loop-test .taken))
+    (ranging-room (t .before .loop .inv .0) (omega arith), λ f. fresh-word (t .before .before .before .before .before .args .at) (t .before .loop .inv .1 f) (t .loop-test .taken))
 
 loop-again : tie.Need-loop-again Inv-loop μ-loop
 loop-again c =
     let t = c .before .before .before .before .before .before .before .before in
     let l = t .before .loop in
-    (ranging-step (l .inv .0) (omega arith) (search needs) (c .before .before .before .before .before .before .known-word .ensures) (c .before .before .before .before .lay-word .ensures) (c .before .before .touch-known .ensures), λ f. fresh-rest (t .before .before .before .before .before .before .before .args .at) (l .inv .1 f) (t .loop-test .taken) (c .before .before .touch-known .ensures))
+    (ranging-step (l .inv .0) (omega arith) (search needs) (c .before .before .before .before .before .before .known-word .ensures) (c .before .before .before .before .lay-word .ensures) (c .before .before .touch-known .ensures), λ f. fresh-rest (t .before .before .before .before .before .args .at) (l .inv .1 f) (t .loop-test .taken) (c .before .before .touch-known .ensures))
 
 returns : tie.Need-returns Inv-loop μ-loop
-returns c = ranging-end (c .before .loop .inv .0) (c .before .before .before .before .before .before .before .pre .1 .some) (omega arith)
+returns c = ranging-end (c .before .loop .inv .0) (c .before .before .before .before .before .pre .1 .some) (omega arith)
 
 pub touch-range-spec : {M : Type 1} → statement M
 touch-range-spec =
@@ -51,7 +48,6 @@ touch-range-spec =
     (tie.spec
     Inv-loop
     μ-loop
-    range-fresh-requires
     loop-holds
     (λ c. search needs)
     (λ c. search needs)

@@ -2,8 +2,6 @@
 use Prim.Native.Nat.{_+_, _*_, _-_}
 use mathlib.Core.Path.{refl}
 use Rattle.stage.specs.View.{seen}
-use Rattle.stage.specs.Clear.{Clear}
-use Rattle.stage.proofs.Clear.{clear-later}
 use Rattle.runs.specs.Rest.{restOf, walkOn}
 use Rattle.runs.proofs.Rest.{zoned-seen}
 use Rattle.runs.proofs.Walking.{Walking, walking-broken, walking-end, walking-passed, walking-step}
@@ -13,32 +11,31 @@ use Rattle.runs.proofs.whole_from.Statement.{statement}
 use Rattle.runs.proofs.whole_from.Tie as tie
 
 abbrev Inv-loop : tie.InvT-loop
-Inv-loop pool staging count zone from behind place cells c₀ after₀ next₀ c after next =
+Inv-loop pool staging index count zone from behind cells c₀ after₀ c after =
     Walking (λ w. w .whole) (walkOn behind (restOf (seen pool staging count) (zone .from) (zone .cells) from) .whole) (seen pool staging count) (zone .from) (zone .cells) c after
-    × Clear staging count (zone .from + 64 * c) next
 
 abbrev μ-loop : tie.MeasureT-loop
-μ-loop pool staging count zone from behind place cells c₀ after₀ next₀ c after next = zone .cells - c
+μ-loop pool staging index count zone from behind cells c₀ after₀ c after = zone .cells - c
 
 loop-holds : tie.Need-loop-holds Inv-loop μ-loop
-loop-holds c = let s = c .before .before in (record { zoned = zoned-seen (s .args .staging .now) (s .args .count) (s .pre .1); within = s .pre .2; rest = refl }, s .pre .3)
+loop-holds c = let s = c .before .before .before in record { zoned = zoned-seen (s .args .staging .now) (s .args .count) (s .pre .1); within = s .pre .2; rest = refl }
 
 returns : tie.Need-returns Inv-loop μ-loop
-returns c = walking-broken (c .before .before .before .loop .inv .0) (c .before .before .loop-test .taken) (c .before .advance .ensures .0) (c .if1 .taken)
+returns c = walking-broken (c .before .before .before .loop .inv) (c .before .before .loop-test .taken) (c .before .meet .ensures) (c .if1 .taken)
 
 add-c : tie.Need-add-c Inv-loop μ-loop
-add-c c = let p = walking-passed (c .before .before .before .loop .inv .0) (c .before .before .loop-test .taken) (c .before .advance .ensures .0) (c .if1 .left) in omega (arith, p .within)
+add-c c = let p = walking-passed (c .before .before .before .loop .inv) (c .before .before .loop-test .taken) (c .before .meet .ensures) (c .if1 .left) in omega (arith, p .within)
 
 loop-less : tie.Need-loop-less Inv-loop μ-loop
-loop-less c = let p = walking-passed (c .before .before .before .loop .inv .0) (c .before .before .loop-test .taken) (c .before .advance .ensures .0) (c .if1 .left) in omega (arith, p .within, p .some)
+loop-less c = let p = walking-passed (c .before .before .before .loop .inv) (c .before .before .loop-test .taken) (c .before .meet .ensures) (c .if1 .left) in omega (arith, p .within, p .some)
 
 loop-again : tie.Need-loop-again Inv-loop μ-loop
 loop-again c =
-    let i = c .before .before .before .loop .inv .0 in
-    (walking-step i (walking-passed i (c .before .before .loop-test .taken) (c .before .advance .ensures .0) (c .if1 .left)) (λ w. refl), clear-later (omega arith) (c .before .advance .ensures .1))
+    let i = c .before .before .before .loop .inv in
+    walking-step i (walking-passed i (c .before .before .loop-test .taken) (c .before .meet .ensures) (c .if1 .left)) (λ w. refl)
 
 returns-2 : tie.Need-returns-2 Inv-loop μ-loop
-returns-2 c = walking-end (c .before .loop .inv .0) (c .loop-test .left)
+returns-2 c = walking-end (c .before .loop .inv) (c .loop-test .left)
 
 pub whole-from-spec : {M : Type 1} → statement M
 whole-from-spec =

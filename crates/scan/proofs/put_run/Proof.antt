@@ -1,10 +1,14 @@
 -- `scan::put_run` meets its contract. Assumes nothing.
+use Rattle.stage.proofs.Index.{indexed-none}
 use Rattle.scrub.proofs.Counting.{object-there, pool-passed}
 use Rattle.scan.proofs.Listing.{lined-broken, lined-free, lined-object}
 use native.Mathlib.Omega.{arith}
 use borrow.Author.Needs.{needs}
 use Rattle.scan.proofs.put_run.Statement.{statement}
 use Rattle.scan.proofs.put_run.Tie as tie
+
+meet-requires : tie.Need-meet-requires
+meet-requires c κs = let s = c .before .before .before in (s .pre .1, s .pre .2, s .pre .3, indexed-none _ _)
 
 returns : tie.Need-returns
 returns c = let s = c .before .before .before .before .before .before .before .before .before in lined-broken _ (s .pre .2) (s .pre .3) (c .before .before .before .before .before .meet .ensures) (c .before .before .before .before .if1 .taken) _ (c .before .before .put-broken .ensures)
@@ -28,7 +32,7 @@ put-run-spec =
     (λ c. search needs)
     (λ c. search needs)
     (λ c. search needs)
-    (λ c κs. search needs)
+    meet-requires
     (λ c κs. search needs)
     (λ c. search needs)
     returns

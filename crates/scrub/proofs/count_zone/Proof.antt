@@ -3,6 +3,7 @@ use Prim.Native.Nat.{_-_, _≤_}
 use mathlib.Core.Path.{refl}
 use Rattle.runs.specs.Rest.{Passed, walkOf}
 use Rattle.runs.proofs.Walking.{Walking, walking-broken, walking-end, walking-passed, walking-start, walking-step}
+use Rattle.stage.proofs.Index.{indexed-none}
 use Rattle.scrub.proofs.Counting.{meets-pool, object-there, tallied, tallies, tallies-step}
 use borrow.Author.Needs.{needs}
 use native.Mathlib.Omega.{arith}
@@ -20,7 +21,7 @@ loop-holds : tie.Need-loop-holds Inv-loop μ-loop
 loop-holds c = (walking-start (c .before .pre .1) refl, omega arith, omega arith)
 
 meet-requires : tie.Need-meet-requires Inv-loop μ-loop
-meet-requires c κs = let s = c .before .before .before .before in (s .pre .0, s .pre .1, c .before .loop-test .taken)
+meet-requires c κs = let s = c .before .before .before .before in (s .pre .0, s .pre .1, c .before .loop-test .taken, indexed-none _ _)
 
 returns : tie.Need-returns Inv-loop μ-loop
 returns c =

@@ -1,4 +1,5 @@
 -- `scrub::damaged_at` meets its contract. Assumes nothing.
+use Rattle.stage.proofs.Index.{indexed-none}
 use Rattle.scrub.proofs.Counting.{body-room, free-at, object-at, object-room}
 use borrow.Author.Needs.{needs}
 use native.Mathlib.Omega.{arith}
@@ -9,17 +10,17 @@ returns : tie.Need-returns
 returns c = free-at _ _ (c .if1 .taken)
 
 read-head-requires : tie.Need-read-head-requires
-read-head-requires c κs = let s = c .before .before .before in (s .pre .0, s .pre .1, omega (arith, object-room (s .pre .2 (c .before .if1 .left))))
+read-head-requires c κs = let s = c .before .before .before in (s .pre .0, s .pre .1, omega (arith, object-room (s .pre .2 (c .before .if1 .left))), indexed-none _ _)
 
 intact-requires : tie.Need-intact-requires
 intact-requires c κs =
-    let s = c .before .before .before .before .before .before in
-    (s .pre .0, s .pre .1, body-room (s .args .pool .now) _ (s .args .at) (s .pre .2 (c .before .before .before .before .if1 .left)) (c .before .before .read-head .ensures) (c .body .ensures .0))
+    let s = c .before .before .before .before .before in
+    (s .pre .0, s .pre .1, body-room (s .args .pool .now) _ (s .args .at) (s .pre .2 (c .before .before .before .if1 .left)) (c .before .read-head .ensures) (c .body .ensures .0), indexed-none _ _)
 
 returns-2 : tie.Need-returns-2
 returns-2 c =
-    let s = c .before .before .before .before .before .before .before in
-    object-at (s .args .pool .now) _ (s .args .at) (c .before .before .before .before .before .if1 .left) (c .before .before .before .read-head .ensures) (c .before .body .ensures .0) (c .intact .ensures)
+    let s = c .before .before .before .before .before .before in
+    object-at (s .args .pool .now) _ (s .args .at) (c .before .before .before .before .if1 .left) (c .before .before .read-head .ensures) (c .before .body .ensures .0) (c .intact .ensures)
 
 pub damaged-at-spec : {M : Type 1} → statement M
 damaged-at-spec =
@@ -30,9 +31,6 @@ damaged-at-spec =
     (λ c. search needs)
     (λ c. search needs)
     read-head-requires
-    (λ c. search needs)
-    (λ c. search needs)
-    (λ c. search needs)
     (λ c κs. search needs)
     intact-requires
     returns-2)

@@ -1,4 +1,5 @@
 -- `zones::body_at` meets its contract. Assumes nothing.
+use Rattle.stage.proofs.Index.{indexed-none}
 use Rattle.zones.proofs.Shaped.{staged-none}
 use Rattle.zones.proofs.BodyAt.{body-below, body-found, body-low, body-refused, body-within}
 use native.Mathlib.Omega.{arith}
@@ -7,7 +8,7 @@ use Rattle.zones.proofs.body_at.Statement.{statement}
 use Rattle.zones.proofs.body_at.Tie as tie
 
 object-at-requires : tie.Need-object-at-requires
-object-at-requires c κs = (staged-none (c .before .before .args .s) (c .before .before .pre) _, c .before .before .pre)
+object-at-requires c κs = (staged-none (c .before .before .args .s) (c .before .before .pre) _, c .before .before .pre, indexed-none _ _)
 
 head-at-requires : tie.Need-head-at-requires
 head-at-requires c κs = let s = c .before .before .before .before .before .before in let f = c .before .before .before .object-at in (s .pre .range, body-below (s .args .s) (s .pre) _ _ (f .result) (f .ensures) (c .before .m .given .1))

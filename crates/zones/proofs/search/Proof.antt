@@ -2,8 +2,6 @@
 use Rattle.rules.specs.Plan.{fitted, search as searchFrom}
 use Rattle.layout.specs.Meaning.{shapeOf}
 use Rattle.stage.specs.View.{seen}
-use Rattle.stage.specs.Clear.{Clear}
-use Rattle.stage.proofs.Clear.{clear-empty, clear-later}
 use Prim.Native.Nat.{ℕ, _+_, _*_, _-_}
 use mathlib.Core.Logic.{⊎-elim}
 use mathlib.Core.Path.{ap₂, _∙_}
@@ -19,54 +17,54 @@ use Rattle.zones.proofs.search.Statement.{statement}
 use Rattle.zones.proofs.search.Tie as tie
 
 abbrev Inv-loop : tie.InvT-loop
-Inv-loop pool staging count s k zones z c₀ n₀ place cells after₀ next₀ c n after next =
+Inv-loop pool staging index count s k zones z c₀ n₀ place cells after₀ c n after =
     Walking (cellsFrom (shapeOf s) (seen pool staging count) k z c) (searchFrom (shapeOf s) (seen pool staging count) k 0 (s .zones)) (seen pool staging count) (place .from) (place .cells) c after
-    × Clear staging count (place .from + 64 * c) next × Zoned pool (place .from) (place .cells)
+    × Zoned pool (place .from) (place .cells)
 
 abbrev μ-loop : tie.MeasureT-loop
-μ-loop pool staging count s k zones z c₀ n₀ place cells after₀ next₀ c n after next = place .cells - c
+μ-loop pool staging index count s k zones z c₀ n₀ place cells after₀ c n after = place .cells - c
 
 abbrev Inv-search : tie.InvT-search
-Inv-search pool staging count s k zones z₀ c₀ n₀ z c n = Outside (shapeOf s) (seen pool staging count) k z
+Inv-search pool staging index count s k zones z₀ c₀ n₀ z c n = Outside (shapeOf s) (seen pool staging count) k z
 
 abbrev μ-search : tie.MeasureT-search
-μ-search pool staging count s k zones z₀ c₀ n₀ z c n = s .zones - z
+μ-search pool staging index count s k zones z₀ c₀ n₀ z c n = s .zones - z
 
 search-holds : tie.Need-search-holds Inv-loop μ-loop Inv-search μ-search
 search-holds c = outside-start _ _ _
 
 zone-requires : tie.Need-zone-requires Inv-loop μ-loop Inv-search μ-search
-zone-requires c κs = (c .before .before .before .before .pre .1 .range, c .search-test .taken)
+zone-requires c κs = (c .before .before .before .before .before .pre .1 .range, c .search-test .taken)
 
 loop-holds : tie.Need-loop-holds Inv-loop μ-loop Inv-search μ-search
 loop-holds c =
-    let s = c .before .before .before .before .before in
+    let s = c .before .before .before .before .before .before in
     let z = zone-inside (s .args .s) (s .pre .1 .range) (s .pre .1 .size) (c .before .search-test .taken) (c .zone .ensures) in (
       walking-start (zoned-seen (s .args .staging .now) (s .args .count) z) (inside-start (c .before .before .search .inv) (c .before .search-test .taken) (c .zone .ensures)),
-      clear-empty (s .args .staging .now) (s .args .count) (omega arith),
       z,
     )
 
-advance-requires : tie.Need-advance-requires Inv-loop μ-loop Inv-search μ-search
-advance-requires c κs = let l = c .before .loop in (c .before .before .before .before .before .before .before .pre .0, l .inv .2, c .loop-test .taken, l .inv .1)
+meet-requires : tie.Need-meet-requires Inv-loop μ-loop Inv-search μ-search
+meet-requires c κs = let l = c .before .loop in let s = c .before .before .before .before .before .before .before .before in (s .pre .0, l .inv .1, c .loop-test .taken, s .pre .2)
 
 returns : tie.Need-returns Inv-loop μ-loop Inv-search μ-search
-returns c = walking-broken (c .before .before .before .loop .inv .0) (c .before .before .loop-test .taken) (c .before .advance .ensures .0) (c .if1 .taken)
+returns c = walking-broken (c .before .before .before .loop .inv .0) (c .before .before .loop-test .taken) (c .before .meet .ensures) (c .if1 .taken)
 
 -- the run that was met
 passed : (c : tie.Else1 Inv-loop μ-loop Inv-search μ-search)
-    → let s = c .before .before .before .before .before .before .before .before .before in
+    → let s = c .before .before .before .before .before .before .before .before .before .before in
     let l = c .before .before .before .loop in
-    Passed (seen (s .args .pool .now) (s .args .staging .now) (s .args .count)) (c .before .before .before .before .zone .result .from) (c .before .before .before .before .zone .result .cells) (l .c) (l .after) (c .before .advance .result .cells) (c .before .advance .result .free)
-passed c = walking-passed (c .before .before .before .loop .inv .0) (c .before .before .loop-test .taken) (c .before .advance .ensures .0) (c .if1 .left)
+    Passed (seen (s .args .pool .now) (s .args .staging .now) (s .args .count)) (c .before .before .before .before .zone .result .from) (c .before .before .before .before .zone .result .cells) (l .c) (l .after) (c .before .meet .result .cells) (c .before .meet .result .free)
+passed c = walking-passed (c .before .before .before .loop .inv .0) (c .before .before .loop-test .taken) (c .before .meet .ensures) (c .if1 .left)
 
 add-whole-from : tie.Need-add-whole-from Inv-loop μ-loop Inv-search μ-search
-add-whole-from c = omega (arith, passed (c .before .before) .within, c .before .before .before .before .before .loop .inv .2 .inside)
+add-whole-from c = omega (arith, passed (c .before .before) .within, c .before .before .before .before .before .loop .inv .1 .inside)
 
 whole-from-requires : tie.Need-whole-from-requires Inv-loop μ-loop Inv-search μ-search
 whole-from-requires c κs =
     let h = c .before .before in
-    (h .before .before .before .before .before .before .before .before .before .pre .0, h .before .before .before .loop .inv .2, omega (arith, passed h .within), clear-later (omega arith) (h .before .advance .ensures .1))
+    let s = h .before .before .before .before .before .before .before .before .before .before in
+    (s .pre .0, h .before .before .before .loop .inv .1, omega (arith, passed h .within), s .pre .2)
 
 returns-2 : tie.Need-returns-2 Inv-loop μ-loop Inv-search μ-search
 returns-2 c =
@@ -75,7 +73,7 @@ returns-2 c =
     walking-judged (fitOr _ _ _) i (c .before .whole-from .ensures) (not-true (c .before .whole-from .result) (c .if3 .taken))
 
 add-c : tie.Need-add-c Inv-loop μ-loop Inv-search μ-search
-add-c c = omega (arith, passed (c .before .before) .within, c .before .before .before .before .before .loop .inv .2 .inside)
+add-c c = omega (arith, passed (c .before .before) .within, c .before .before .before .before .before .loop .inv .1 .inside)
 
 loop-less : tie.Need-loop-less Inv-loop μ-loop Inv-search μ-search
 loop-less c = let p = passed (c .before .before) in omega (arith, p .within, p .some)
@@ -84,7 +82,7 @@ loop-again : tie.Need-loop-again Inv-loop μ-loop Inv-search μ-search
 loop-again c =
     let h = c .before .before in
     let l = h .before .before .before .loop in
-    (walking-step (l .inv .0) (passed h) (inside-pass _ _ _ (passed h) (c .before .fits2 .ensures) (c .if2 .left)), clear-later (omega arith) (h .before .advance .ensures .1), l .inv .2)
+    (walking-step (l .inv .0) (passed h) (inside-pass _ _ _ (passed h) (c .before .fits2 .ensures) (c .if2 .left)), l .inv .1)
 
 search-again : tie.Need-search-again Inv-loop μ-loop Inv-search μ-search
 search-again c = inside-end _ _ (walking-end (c .before .loop .inv .0) (c .loop-test .left))
@@ -94,7 +92,7 @@ returns-3 c =
     ⊎-elim
     (λ w. let b : ⊥ = omega arith in absurd b)
     (λ w.
-    let p = walking-passed (w .2 .inv .0) (w .3 .taken) (w .4 .ensures .0) (w .5 .left) in
+    let p = walking-passed (w .2 .inv .0) (w .3 .taken) (w .4 .ensures) (w .5 .left) in
     let i = walking-step (w .2 .inv .0) p (inside-hit _ _ _ p (w .6 .ensures) (w .7 .taken)) in
     ap₂ (λ (x y : ℕ). fitted (c .before .before .search .z) (record { cell = x; count = y })) (w .10) (w .11) ∙ walking-judged (fitOr _ _ _) i (w .8 .ensures) (not-false (w .8 .result) (w .9 .left)))
     (c .before .search-test .came)
@@ -113,7 +111,7 @@ search-spec =
     search-holds
     zone-requires
     loop-holds
-    advance-requires
+    meet-requires
     returns
     (λ c κs. search needs)
     add-whole-from

@@ -1,8 +1,8 @@
--- `log::mark_of` meets its contract. Assumes nothing.
-use Rattle.log.specs.Targets.{markOf}
+-- `stage::mark_of` meets its contract. Assumes nothing.
+use Rattle.stage.specs.Index.{markOf}
 use borrow.Author.Needs.{needs}
-use Rattle.log.proofs.mark_of.Statement.{statement}
-use Rattle.log.proofs.mark_of.Tie as tie
+use Rattle.stage.proofs.mark_of.Statement.{statement}
+use Rattle.stage.proofs.mark_of.Tie as tie
 
 returns : tie.Need-returns
 unfolding markOf

@@ -115,13 +115,13 @@ module _ (s : Shape) (p st : List ℕ) (t : Record) (k : ℕ) where
       → InRange (shapeOf s) × Steps.Ready (shapeOf s) p st 0 (t .count) 0 × (1 ≤ t .count) × (k < 6 * t .count + 9)
   part-asks r h l = (r, h, entry-there (t .count) l, commit-there (t .count) l)
 
-  pub part-made : (q : List ℕ) (r : Stepped) (m N : ℕ) → shapeIn p ≡ shapeOf s → PartMade (shapeOf s) (commitSteps (shapeOf s) (read st 0 (t .count))) k (commitBarrier (t .count) k) p q m
-      → N ≡ commitLength (t .count) → r ≡ steppedTo t Barrier m N → afterOf r q st ≡ commitMade (given p st t) k (commitBarrier (t .count) k)
+  pub part-made : (q : List ℕ) (r : Stepped) (m u N : ℕ) → shapeIn p ≡ shapeOf s → PartMade (shapeOf s) (commitSteps (shapeOf s) (read st 0 (t .count))) k (commitBarrier (t .count) k) p q m
+      → u ≡ m → N ≡ commitLength (t .count) → r ≡ steppedTo t Barrier u N → afterOf r q st ≡ commitMade (given p st t) k (commitBarrier (t .count) k)
   unfolding commitMade commitList entriesIn read steppedTo stepAnswer nextPhase madeAnswer
-  part-made q r m N d c f h =
+  part-made q r m u N d c v f h =
       let e : ℕ = commitBarrier (t .count) k in
       let l : N ≡ length (commitSteps (shapeOf s) (entriesAt st 0 (t .count))) = list-is (shapeOf s) st (t .count) f in
-      rw (h, c .bytes, c .number, d, ← l) (split (eqb (suc e) N) (λ y. rw y) (λ y. rw y))
+      rw (h, c .bytes, v ∙ c .number, d, ← l) (split (eqb (suc e) N) (λ y. rw y) (λ y. rw y))
 
 -- ---- where a commit goes on
 

@@ -22,10 +22,10 @@ loop-holds : tie.Need-loop-holds Inv-loop μ-loop
 loop-holds c = (search needs, refl, λ sh. along-start (search needs))
 
 apply-requires : tie.Need-apply-requires Inv-loop μ-loop
-apply-requires c κs = let a = c .before .before .before .before .before .before in data-inside (a .args .s) (a .pre .0) _ _ _ _ _ (a .pre .1) (c .before .before .before .loop .inv .2 (shapeOf (a .args .s))) (c .before .before .loop-test .taken) (c .before .data-action .ensures)
+apply-requires c κs = let a = c .before .before .before .before .before .before in data-inside (a .args .s) (a .pre .0) _ _ _ _ _ (a .pre .1) (c .before .before .before .loop .inv .2 (shapeOf (a .args .s))) (omega arith) (c .before .data-action .ensures)
 
 loop-again : tie.Need-loop-again Inv-loop μ-loop
-loop-again c = (search needs, c .before .before .apply .kept .0 ∙ c .before .before .before .before .before .before .loop .inv .1, λ sh. data-next sh _ _ _ (c .before .before .before .before .before .before .loop .inv .2 sh) (c .before .before .before .before .before .loop-test .taken) (c .before .before .before .before .data-action .ensures) (c .before .before .apply .ensures) (c .before .before .apply .kept .0))
+loop-again c = (search needs, c .before .before .apply .kept .0 ∙ c .before .before .before .before .before .before .loop .inv .1, λ sh. data-next sh _ _ _ (c .before .before .before .before .before .before .loop .inv .2 sh) (omega arith) (c .before .before .before .before .data-action .ensures) (c .before .before .apply .ensures) (c .before .before .apply .kept .0))
 
 returns : tie.Need-returns Inv-loop μ-loop
 returns c = let a = c .before .before .before .before in data-end (shapeOf (a .args .s)) _ _ _ (c .before .loop .inv .2 (shapeOf (a .args .s))) (omega arith)

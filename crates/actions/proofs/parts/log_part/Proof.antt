@@ -5,7 +5,7 @@ use native.Mathlib.Omega.{arith}
 use Rattle.layout.specs.Meaning.{shapeOf}
 use Rattle.log.specs.Targets.{read}
 use Rattle.powercut.specs.Steps.{commitSteps}
-use Rattle.actions.proofs.PartMade.{Along, log-end, log-inside, log-next}
+use Rattle.actions.proofs.PartMade.{Along, along-start, log-end, log-inside, log-next}
 use borrow.Author.Needs.{needs}
 use Rattle.actions.proofs.parts.log_part.Statement.{statement}
 use Rattle.actions.proofs.parts.log_part.Tie as tie
@@ -16,11 +16,14 @@ Inv-loop s pool₀ staging n k i₀ i-end pool i = (i-end ≡ 4 * n) × Along (s
 abbrev μ-loop : tie.MeasureT-loop
 μ-loop s pool₀ staging n k i₀ i-end pool i = 4 * n - i
 
+loop-holds : tie.Need-loop-holds Inv-loop μ-loop
+loop-holds c = (omega arith, along-start (omega arith))
+
 apply-requires : tie.Need-apply-requires Inv-loop μ-loop
-apply-requires c κs = let a = c .before .before .before .before .before .before in log-inside (a .args .s) (a .pre .0) _ _ _ _ (a .pre .1) (a .pre .2) (c .before .before .before .loop .inv .1) (c .before .before .loop-test .taken) (c .before .log-action .ensures)
+apply-requires c κs = let a = c .before .before .before .before .before .before in log-inside (a .args .s) (a .pre .0) _ _ _ _ (a .pre .1) (a .pre .2) (c .before .before .before .loop .inv .1) (omega arith) (c .before .log-action .ensures)
 
 loop-again : tie.Need-loop-again Inv-loop μ-loop
-loop-again c = let a = c .before .before .before .before .before .before .before .before .before in (c .before .before .before .before .before .before .loop .inv .0, log-next (a .args .s) (a .pre .0) _ _ _ _ (a .pre .1) (a .pre .2) (c .before .before .before .before .before .before .loop .inv .1) (c .before .before .before .before .before .loop-test .taken) (c .before .before .before .before .log-action .ensures) (c .before .before .apply .ensures) (c .before .before .apply .kept .0))
+loop-again c = let a = c .before .before .before .before .before .before .before .before .before in (c .before .before .before .before .before .before .loop .inv .0, log-next (a .args .s) (a .pre .0) _ _ _ _ (a .pre .1) (a .pre .2) (c .before .before .before .before .before .before .loop .inv .1) (omega arith) (c .before .before .before .before .log-action .ensures) (c .before .before .apply .ensures) (c .before .before .apply .kept .0))
 
 returns : tie.Need-returns Inv-loop μ-loop
 returns c = let a = c .before .before .before .before in log-end (a .args .s) (a .pre .0) _ _ _ _ (a .pre .1) (a .pre .2) (c .before .loop .inv .1) (omega arith)
@@ -32,7 +35,7 @@ log-part-spec =
     Inv-loop
     μ-loop
     (λ c. search needs)
-    (λ c. search needs)
+    loop-holds
     (λ c κs. search needs)
     apply-requires
     (λ c. search needs)

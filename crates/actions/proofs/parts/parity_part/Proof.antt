@@ -17,10 +17,10 @@ abbrev μ-loop : tie.MeasureT-loop
 μ-loop s pool₀ src at n k i₀ pool i = n - i
 
 parity-action-requires : tie.Need-parity-action-requires Inv-loop μ-loop
-parity-action-requires c κs = let a = c .before .before .before .before .before .before in let l = c .before .before .before .loop in (a .pre .0, parity-ready (a .args .s) (a .pre .0) _ _ _ _ _ (a .pre .1) (l .inv .1) (c .before .before .loop-test .taken) (c .before .load64 .ensures), l .inv .1 .kept ∙ a .pre .1 .whole)
+parity-action-requires c κs = let a = c .before .before .before .before .before .before in let l = c .before .before .before .loop in (a .pre .0, parity-ready (a .args .s) (a .pre .0) _ _ _ _ _ (a .pre .1) (l .inv .1) (omega arith) (c .before .load64 .ensures), l .inv .1 .kept ∙ a .pre .1 .whole)
 
 loop-again : tie.Need-loop-again Inv-loop μ-loop
-loop-again c = let a = c .before .before .before .before .before .before .before .before .before .before .before in let l = c .before .before .before .before .before .before .before .before .loop in (search needs, parity-next (a .args .s) (a .pre .0) _ _ _ _ _ (a .pre .1) (l .inv .1) (c .before .before .before .before .before .before .before .loop-test .taken) (c .before .before .before .before .before .before .load64 .ensures) (c .before .before .before .before .parity-action .ensures) (c .before .before .apply .ensures) (c .before .before .apply .kept .0))
+loop-again c = let a = c .before .before .before .before .before .before .before .before .before .before .before in let l = c .before .before .before .before .before .before .before .before .loop in (search needs, parity-next (a .args .s) (a .pre .0) _ _ _ _ _ (a .pre .1) (l .inv .1) (omega arith) (c .before .before .before .before .before .before .load64 .ensures) (c .before .before .before .before .parity-action .ensures) (c .before .before .apply .ensures) (c .before .before .apply .kept .0))
 
 returns : tie.Need-returns Inv-loop μ-loop
 returns c = let a = c .before .before .before .before in parity-end (a .args .s) (a .pre .0) _ _ _ _ _ (a .pre .1) (c .before .loop .inv .1) (omega arith)

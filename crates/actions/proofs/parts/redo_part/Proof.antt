@@ -8,19 +8,19 @@ use Rattle.actions.proofs.parts.redo_part.Statement.{statement}
 use Rattle.actions.proofs.parts.redo_part.Tie as tie
 
 returns : tie.Need-returns
-returns c = let a = c .before .before .before .before .before .before .before in redo-by-data (shapeOf (a .args .s)) _ _ _ _ (c .before .before .before .before .if1 .taken) (c .before .before .data-part .ensures)
+returns c = let a = c .before .before .before .before .before .before .before in redo-by-data (shapeOf (a .args .s)) _ _ _ _ (omega arith) (c .before .before .data-part .ensures)
 
 parity-part-requires : tie.Need-parity-part-requires
 parity-part-requires c κs = let a = c .before .before .before .before .before in (a .pre .0, ready-kept (a .pre .1) refl (omega arith), omega arith)
 
 returns-2 : tie.Need-returns-2
-returns-2 c = let a = c .before .before .before .before .before .before .before .before in redo-by-parity (shapeOf (a .args .s)) _ _ _ _ (c .before .before .before .before .before .if1 .left) (c .before .before .before .before .if2 .taken) (c .before .before .parity-part .ensures)
+returns-2 c = let a = c .before .before .before .before .before .before .before .before in redo-by-parity (shapeOf (a .args .s)) _ _ _ _ (omega arith) (omega arith) (c .before .before .parity-part .ensures)
 
 seal-part-requires : tie.Need-seal-part-requires
 seal-part-requires c κs = let a = c .before .before .before .before .before in (record { range = a .pre .0; size = a .pre .1 .whole }, omega arith)
 
 returns-3 : tie.Need-returns-3
-returns-3 c = let a = c .before .before .before .before .before .before .before .before in redo-by-seals (shapeOf (a .args .s)) _ _ _ _ (c .before .before .before .before .before .if1 .left) (c .before .before .before .before .if2 .left) (a .pre .2) (c .before .before .seal-part .ensures)
+returns-3 c = let a = c .before .before .before .before .before .before .before .before in redo-by-seals (shapeOf (a .args .s)) _ _ _ _ (omega arith) (omega arith) (omega arith) (c .before .before .seal-part .ensures)
 
 pub redo-part-spec : {M : Type 1} → statement M
 redo-part-spec =

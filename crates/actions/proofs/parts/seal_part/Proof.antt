@@ -18,8 +18,8 @@ use Rattle.actions.proofs.parts.seal_part.Tie as tie
 after : (c : tie.Joined1) → let a = c .before .before .args in let x = c .if1 .pool in
     (a .j ≡ 0 → x ≡ put (a .pool .now) (logA (shapeOf (a .s))) (a .w)) × ((a .j ≡ 0 → ⊥) → x ≡ a .pool .now) × (length x ≡ length (a .pool .now))
 after c =
-    ⊎-elim (λ w. (λ e. w .6 ∙ w .3 .ensures ∙ ap (λ (b : ℕ). put _ b _) (w .2 .ensures), λ f. absurd (f (w .0 .taken)), ap length (w .6) ∙ w .3 .kept .0))
-    (λ w. (λ e. absurd (w .0 .left e), λ f. w .1, ap length (w .1))) (c .if1 .came)
+    ⊎-elim (λ w. (λ e. w .6 ∙ w .3 .ensures ∙ ap (λ (b : ℕ). put _ b _) (w .2 .ensures), λ f. absurd (f (omega (arith, w .0 .taken))), ap length (w .6) ∙ w .3 .kept .0))
+    (λ w. (λ e. absurd (w .0 .left (omega arith)), λ f. w .1, ap length (w .1))) (c .if1 .came)
 
 store64-requires : tie.Need-store64-requires
 store64-requires c κs = let a = c .before .before .before .before in let g = shaped-room (a .args .pool .now) (a .args .s) (a .pre .0) in let m = shape-good (a .args .s) (a .pre .0 .range) .page-min in omega arith

@@ -46,13 +46,13 @@ more-goes m x h = rw h
 
 -- ---- what an accepted step tells
 
-pub record Committing (g : Given) (k : ℕ) : Type 0 where
-  pub phase : g .txn .phase ≡ committing k
-  pub opens : Passed (openTests (g .pool))
-  pub room : ltb (length (g .staging)) stagingSize ≡ false
-  pub few : g .txn .count ≤ entryLimit
-  pub inside : k < commitLength (g .txn .count)
-  pub targets : goodTargets (shapeIn (g .pool)) (entriesIn g) ≡ true
+record Committing (g : Given) (k : ℕ) : Type 0 where
+  phase : g .txn .phase ≡ committing k
+  opens : Passed (openTests (g .pool))
+  room : ltb (length (g .staging)) stagingSize ≡ false
+  few : g .txn .count ≤ entryLimit
+  inside : k < commitLength (g .txn .count)
+  targets : goodTargets (shapeIn (g .pool)) (entriesIn g) ≡ true
 
 pub accepted-place : (g : Given) → Accepted (commitStep g .answer) → (k : ℕ) × (g .txn .phase ≡ committing k)
 unfolding commitTests
@@ -102,7 +102,7 @@ module _ (g : Given) (k : ℕ) (c : Committing g k) where
   abbrev m : ℕ
   m = length (commitList g)
 
-  -- the step before which the part's barrier stands
+  -- how many steps stand before the part's barrier
   abbrev e : ℕ
   e = commitBarrier n k
 

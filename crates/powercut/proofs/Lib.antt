@@ -20,6 +20,6 @@ pub mod Untouched
 pub mod RecoveryOn
 pub mod Refusals
 pub mod CommitOn
-pub mod AdvanceRun
+pub mod RunOn
 pub mod Committed
 pub mod Requirements

@@ -6,6 +6,7 @@ use Rattle.rules.specs.Staging as Staging
 use Rattle.rules.specs.Answer.{After, Changed, Given}
 use Rattle.rules.specs.Plan.{Call}
 use Rattle.rules.specs.Calls.{call}
+use Rattle.powercut.specs.Recovery as Paper
 use Rattle.powercut.specs.Recovery.{RecoveryAfter}
 use Rattle.answers.specs.Meaning.{answerOf, valueOf}
 use Rattle.record.specs.Meaning.{phaseOf}
@@ -14,6 +15,7 @@ use Rattle.pool.specs.Meaning as Pool
 use Rattle.transaction.specs.declared.Transaction as Public
 use Rattle.transaction.specs.declared.Reply as PublicReply
 use Rattle.transaction.specs.Meaning.{afterOf, givenOf, transactionOf}
+use Rattle.recovery.specs.declared.Recovery as PublicRecord
 use Rattle.recovery.specs.declared.Reply as PublicRecovery
 use Rattle.recovery.specs.Meaning as Recovery
 use Rattle.recovery.specs.Meaning.{recoveryOf}
@@ -23,7 +25,7 @@ use Rattle.pool_c.specs.declared.recoveries.Recovery as C
 use Rattle.pool_c.specs.declared.recoveries.RecoveryReply.{RecoveryReply}
 use Rattle.pool_c.specs.Meaning.{Fits64, afterOut, changedOut, givenIn, phaseIn, phaseOut, recoveryAfterOut, recoveryIn, recoveryReplyOut, replyOut, transactionIn}
 use Rattle.pool_c.proofs.Reading.{phase-out-in, progress-out-in, work-out-in}
-use Rattle.pool_c.proofs.Fits.{Fits, Keeps, call-fits}
+use Rattle.pool_c.proofs.Fits.{Fits, Keeps, KeepsFits, call-fits}
 
 -- ---- the pool alone
 
@@ -56,7 +58,7 @@ module _ (k : Call) (t : Transaction) (d : Public.Transaction) (x : PublicReply.
 
 -- ---- a recovery
 
-pub recovery-in-fits : (r : C.Recovery) → Fits64 (r .work) → Fits64 (r .phase) → Fits (recoveryIn r)
+recovery-in-fits : (r : C.Recovery) → Fits64 (r .work) → Fits64 (r .phase) → Fits (recoveryIn r)
 recovery-in-fits r k l = (rw work-out-in k, rw progress-out-in l)
 
 module _ (x : PublicRecovery.Reply) (q : List ℕ) {y : RecoveryAfter} (h : Recovery.afterOf x q ≡ y) where
@@ -65,3 +67,12 @@ module _ (x : PublicRecovery.Reply) (q : List ℕ) {y : RecoveryAfter} (h : Reco
 
   pub recovery-after-out : {r : RecoveryReply} → r ≡ recoveryReplyOut (answerOf (x .answer)) (recoveryOf (x .recovery)) → (r, q) ≡ recoveryAfterOut y
   recovery-after-out e = ap (λ (z : RecoveryReply). (z, q)) e ∙ ap recoveryAfterOut h
+
+-- a step, or all steps up to the next barrier: f is the definition, d the recovery decoded from t, x what the public call hands back
+module _ (f : List ℕ → Paper.Recovery → RecoveryAfter) (t : C.Recovery) (d : PublicRecord.Recovery) (x : PublicRecovery.Reply) (p q : List ℕ)
+    (e : recoveryOf d ≡ recoveryIn t) (h : Recovery.afterOf x q ≡ f p (recoveryOf d)) where
+  pub recovered-fits : KeepsFits f → Fits64 (t .work) → Fits64 (t .phase) → Fits (recoveryOf (x .recovery))
+  recovered-fits k l m = recovery-after-fits x q (h ∙ ap (f p) e) (k p (recoveryIn t) (recovery-in-fits t l m))
+
+  pub recovered-out : {r : RecoveryReply} → r ≡ recoveryReplyOut (answerOf (x .answer)) (recoveryOf (x .recovery)) → (r, q) ≡ recoveryAfterOut (f p (recoveryIn t))
+  recovered-out i = recovery-after-out x q (h ∙ ap (f p) e) i

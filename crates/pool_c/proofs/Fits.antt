@@ -21,7 +21,7 @@ use Rattle.rules.proofs.Test.{first-passed, passed-left, passed-right}
 use Rattle.powercut.specs.Log.{countIn, valid}
 use Rattle.powercut.specs.Steps.{Remedy, clear, neither, nothing, remedy, replay}
 use Rattle.powercut.specs.Commit.{commitList, commitMore, commitOn, commitStart, commitStep, commitTests, isStored, nextPhase, placeIn, startPhase}
-use Rattle.powercut.specs.Recovery.{Recovery, RecoveryAfter, concludeRecovery, doneSteps, nextProgress, recoveryList, recoveryStart, recoveryStep, startRecovery}
+use Rattle.powercut.specs.Recovery.{Recovery, RecoveryAfter, concludeRecovery, doneSteps, nextProgress, recoveryList, recoveryMore, recoveryOn, recoveryStart, recoveryStep, startRecovery}
 use Rattle.powercut.proofs.RunMatches.{again-inside}
 use Rattle.pool_c.specs.Meaning.{Fits64, phaseOut, progressOut, workOut}
 
@@ -122,8 +122,22 @@ next-progress-fits : (k n : ℕ) → k < 259 → Fits64 (progressOut (nextProgre
 unfolding nextProgress
 next-progress-fits k n l = split (eqb (suc k) n) (λ e. rw e (omega arith)) (λ e. rw e (omega arith))
 
-pub recovery-step-fits : (p : List ℕ) (r : Recovery) → Fits r → Fits (recoveryStep p r .recovery)
+-- what a call leaves of a recovery that fits is one that fits
+abbrev pub KeepsFits : (List ℕ → Recovery → RecoveryAfter) → Type 0
+KeepsFits f = (p : List ℕ) (r : Recovery) → Fits r → Fits (f p r .recovery)
+
+pub recovery-step-fits : KeepsFits recoveryStep
 unfolding recoveryStep
 recovery-step-fits p r h = conclude-recovery-fits p r _ _ h (λ e.
     let i = again-inside p r e in
     (h .0, next-progress-fits (doneSteps (r .phase)) (length (recoveryList p r)) (omega arith)))
+
+recovery-more-fits : (m : ℕ) (x : RecoveryAfter) → Fits (x .recovery) → Fits (recoveryMore m x .recovery)
+unfolding recoveryMore
+recovery-more-fits zero x h = h
+recovery-more-fits (suc m) x h =
+    split (isStored (x .answer)) (λ e. rw e (recovery-more-fits m (recoveryStep (x .pool) (x .recovery)) (recovery-step-fits (x .pool) (x .recovery) h))) (λ e. rw e h)
+
+pub recovery-advance-fits : KeepsFits recoveryOn
+unfolding recoveryOn
+recovery-advance-fits p r h = recovery-more-fits _ (recoveryStep p r) (recovery-step-fits p r h)

@@ -1,6 +1,6 @@
 // The calls on a recovery.
 ghost use mathlib.Core.Path.{_≡_};
-ghost use Rattle.powercut.specs.Recovery.{recoveryStart, recoveryStep};
+ghost use Rattle.powercut.specs.Recovery.{recoveryOn, recoveryStart, recoveryStep};
 ghost use Rattle.answers.specs.Meaning.{answerOf};
 ghost use Rattle.recovery.specs.Meaning.{progressOf, recoveryOf, remedyOf};
 ghost use Rattle.pool_c.specs.Meaning.{Fits64, progressIn, progressOut, recoveryAfterOut, recoveryIn, recoveryReplyOut, workIn, workOut};
@@ -122,4 +122,12 @@ pub extern "C" fn pool_recover_step(recovery: Recovery, pool: &mut [u8]) -> Reco
     ensures { λ r. ⌜ (r, now (pool .exit)) ≡ recoveryAfterOut (recoveryStep (now (pool .entry)) (recoveryIn recovery)) ⌝ }
 {
     encoded(decoded(recovery).step(pool))
+}
+
+// Makes all steps up to the recovery's next barrier.
+#[no_mangle]
+pub extern "C" fn pool_recover_advance(recovery: Recovery, pool: &mut [u8]) -> RecoveryReply
+    ensures { λ r. ⌜ (r, now (pool .exit)) ≡ recoveryAfterOut (recoveryOn (now (pool .entry)) (recoveryIn recovery)) ⌝ }
+{
+    encoded(decoded(recovery).advance(pool))
 }

@@ -1,23 +1,18 @@
 -- `pool_c::recoveries::pool_recover_step` meets its contract. Assumes nothing.
-use mathlib.Core.Path.{ap, _∙_}
 use Rattle.powercut.specs.Recovery.{recoveryStep}
 use Rattle.pool_c.proofs.Fits.{recovery-step-fits}
-use Rattle.pool_c.proofs.After.{recovery-after-fits, recovery-after-out, recovery-in-fits}
+use Rattle.pool_c.proofs.After.{recovered-fits, recovered-out}
 use borrow.Author.Needs.{needs}
 use Rattle.pool_c.proofs.recoveries.pool_recover_step.Statement.{statement}
 use Rattle.pool_c.proofs.recoveries.pool_recover_step.Tie as tie
 
 encoded-requires : tie.Need-encoded-requires
 encoded-requires c κs =
-    let s = c .before .before .before .before .before .before .args in
-    let x = c .before .before .step in
-    recovery-after-fits (x .result) _ (x .ensures ∙ ap (recoveryStep (s .pool .now)) (c .before .before .before .before .decoded .ensures)) (recovery-step-fits _ _ (recovery-in-fits (s .recovery) (search needs) (search needs)))
+    let a = c .before .before .before .before .before .before .args in
+    recovered-fits recoveryStep (a .recovery) (c .before .before .before .before .decoded .result) (c .before .before .step .result) _ _ (c .before .before .before .before .decoded .ensures) (c .before .before .step .ensures) recovery-step-fits (search needs) (search needs)
 
 returns : tie.Need-returns
-returns c =
-    let s = c .before .before .before .before .before .before .before .args in
-    let x = c .before .before .before .step in
-    recovery-after-out (x .result) _ (x .ensures ∙ ap (recoveryStep (s .pool .now)) (c .before .before .before .before .before .decoded .ensures)) (c .encoded .ensures)
+returns c = search (needs, recovered-out recoveryStep)
 
 pub pool-recover-step-spec : {M : Type 1} → statement M
 pool-recover-step-spec =

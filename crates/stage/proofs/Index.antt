@@ -23,8 +23,8 @@ getD-zeros zero k = refl
 getD-zeros (suc n) zero = refl
 getD-zeros (suc n) (suc k) = getD-zeros n k
 
-pub blank-zeros : Blank (replicate 640 0)
-blank-zeros = record { long = refl; zero = getD-zeros 640 }
+pub blank-zeros : Blank (replicate 384 0)
+blank-zeros = record { long = refl; zero = getD-zeros 384 }
 
 pub indexed-none : (ix st : List ℕ) → Indexed ix st 0
 indexed-none ix st = record { chained = λ h. absurd (omega arith) }
@@ -61,7 +61,7 @@ module _ {ix st : List ℕ} {n t k : ℕ} (c : Chained ix st n) (f : n < 127) (l
   unfolding markAt word
   mark-here = ap markOf (sym (l .value)) ∙ sym q
 
-  long₁ : length ix₁ ≡ 640
+  long₁ : length ix₁ ≡ 384
   long₁ = length-set ix (markCount + n) (getD ix k 0) ∙ c .long
 
   below : (j : ℕ) → j < markCount → (j ≡ k → ⊥) → getD ix₂ j 0 ≡ getD ix j 0

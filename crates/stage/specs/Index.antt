@@ -1,7 +1,7 @@
 -- An index of entries in lent memory, so that one is found by its target: a hash table with chains. Assumes nothing.
 --
---   byte k below 512      the last entry with the mark k
---   byte 512 + e          the last entry before entry e with the mark that e has
+--   byte k below 256      the last entry with the mark k
+--   byte 256 + e          the last entry before entry e with the mark that e has
 --
 -- each as one more than the entry's number; 0 where there is none.
 use Prim.Native.Nat.{ℕ, _+_, _-_, _*_, _/_, _%_, _≤_, _<_}
@@ -10,12 +10,12 @@ use mathlib.Core.List.{List}
 use lib.ListN.{length, getD}
 use Rattle.rules.specs.Words.{word}
 
--- Targets share 512 marks; the one that stands for the target t.
+-- Targets share 256 marks; the one that stands for the target t.
 abbrev pub markCount : ℕ
-markCount = 512
+markCount = 256
 
 unfoldable pub markOf : ℕ → ℕ
-markOf t = t / 8 % 65536 * 40503 / 128 % markCount
+markOf t = t / 8 % 65536 * 40503 / 256 % markCount
 
 -- The mark of entry e of staging memory st.
 unfoldable pub markAt : List ℕ → ℕ → ℕ
@@ -29,12 +29,12 @@ pub record Last (st : List ℕ) (n k p : ℕ) : Type 0 where
 
 -- An index without entries.
 pub record Blank (ix : List ℕ) : Type 0 where
-  pub long : length ix ≡ 640
+  pub long : length ix ≡ 384
   pub zero : (k : ℕ) → getD ix k 0 ≡ 0
 
 -- The index of the n entries of staging memory st.
 pub record Chained (ix st : List ℕ) (n : ℕ) : Type 0 where
-  pub long : length ix ≡ 640
+  pub long : length ix ≡ 384
   pub few : n ≤ 127
   pub last : (k : ℕ) → k < markCount → Last st n k (getD ix k 0)
   pub prior : (e : ℕ) → e < n → Last st e (markAt st e) (getD ix (markCount + e) 0)

@@ -26,16 +26,16 @@ pub fn entry_index(staging: &[u8], count: usize, target: u64) -> usize
 }
 
 // The marks that targets share.
-pub const MARKS: usize = 512;
+pub const MARKS: usize = 256;
 
 // The bytes of an index.
-pub const INDEX: usize = 640;
+pub const INDEX: usize = 384;
 
 // The mark of the target `t`, by Fibonacci hashing of its word's number: words in a row and heads at even distances seldom share one.
 pub fn mark_of(t: u64) -> usize
     ensures { λ r. ⌜ (r ≡ markOf t) × (r < markCount) ⌝ }
 {
-    t as usize / 8 % 65536 * 40503 / 128 % MARKS
+    t as usize / 8 % 65536 * 40503 / 256 % MARKS
 }
 
 // Fills an index of zeros with the entries: one pass, so that each of them is found by its target's mark.

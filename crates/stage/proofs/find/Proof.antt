@@ -42,7 +42,7 @@ shared-slice-read-p-2 : tie.Need-shared-slice-read-p-2 Inv-loop μ-loop
 shared-slice-read-p-2 c = let s = c .before .before .before .before .before .before .before .before .before .before in let t = s .pre .2 .chained (omega (arith, c .before .before .before .before .before .before .before .if1 .left)) in omega (arith, t .few, t .long, c .before .before .before .before .loop .inv .le)
 
 cast-p-2 : tie.Need-cast-p-2 Inv-loop μ-loop
-cast-p-2 c = omega (arith, c .shared-slice-known4 .given (512 + (c .before .before .before .before .loop .p - 1)))
+cast-p-2 c = omega (arith, c .shared-slice-known4 .given (256 + (c .before .before .before .before .loop .p - 1)))
 
 loop-less : tie.Need-loop-less Inv-loop μ-loop
 loop-less c = let l = c .before .before .before .before .loop in chase-step (c .before .before .before .before .before .before .before .before .before .before .pre .2) (l .inv) (c .before .before .before .loop-test .taken) (c .before .before .load64 .ensures) (c .before .if2 .left) refl .1

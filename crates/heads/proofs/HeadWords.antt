@@ -17,13 +17,27 @@ use Rattle.rules.proofs.Sets.{sets-append}
 use Rattle.rules.proofs.Laid.{free-ok, free-says, object-ok, object-says}
 use Rattle.sums.specs.Fed.{Fed, Started}
 use Rattle.sums.proofs.Fed.{fed-append, fed-check}
-use Rattle.stage.specs.View.{Reads, part}
+use Rattle.stage.specs.Touched.{added}
+use Rattle.stage.specs.View.{Reads, Staged, entriesOf, part, seen}
 use Rattle.heads.specs.HeadWords.{Checked, coveredBy, headOf}
 use Rattle.heads.proofs.Digits.{digits-join}
 
 pub head-reads : {v : List ℕ} {at a b : ℕ} → Reads v at a → Reads v (at + 8) b → headOf a b ≡ part 16 at v
 unfolding headOf part
 head-reads {v} {at} p q = ap₂ (λ (x y : List ℕ). x ++ y) (p .bytes) (q .bytes ∙ ap (take 8) (sym (drop-drop 8 at v))) ∙ sym (take-add 8 8 (drop at v))
+
+-- with no entries
+
+pub none-staged : {p st : List ℕ} {n : ℕ} → Staged p st n → Staged p st 0
+unfolding entriesOf
+none-staged s = record { room = omega arith; tidy = tt; words = s .words }
+
+pub none-fresh : (st : List ℕ) (o : ℕ) → added o (entriesOf st 0) ≡ 1
+unfolding entriesOf added
+none-fresh st o = refl
+
+pub head-alone : (p st : List ℕ) {at a b n : ℕ} → n ≡ 0 → Reads (seen p st 0) at a → Reads (seen p st 0) (at + 8) b → headOf a b ≡ part 16 at (seen p st n)
+head-alone p st e f g = rw e (head-reads f g)
 
 pub head-stored : (p : List ℕ) (at a b : ℕ) {p₁ p₂ : List ℕ} → p₁ ≡ put p at a → p₂ ≡ put p₁ (at + 8) b → p₂ ≡ sets p at (headOf a b)
 unfolding headOf put

@@ -159,11 +159,16 @@ pub fn put_head(s: &mut [u8], at: usize, head: Head)
     words::store64(s, at + 8, head.second);
 }
 
-// The head at `at`, as staged.
+// The head at `at`, as staged; with no entries it is read from the pool alone.
 pub fn read_head(pool: &[u8], staging: &[u8], index: &[u8], count: usize, at: usize) -> Head
     requires { ⌜ Staged (now pool) (now staging) count × (at % 8 ≡ 0) × (at + 16 ≤ length (now pool)) × Indexed (now index) (now staging) count ⌝ }
     ensures { λ r. ⌜ headOf (r .first) (r .second) ≡ part 16 at (seen (now (pool .entry)) (now (staging .entry)) count) ⌝ }
 {
+    if count == 0 {
+        let first = stage::known_word(pool, staging, 0, at, true);
+        let second = stage::known_word(pool, staging, 0, at + 8, true);
+        return Head { first, second };
+    }
     let first = stage::staged_word(pool, staging, index, count, at);
     let second = stage::staged_word(pool, staging, index, count, at + 8);
     Head { first, second }

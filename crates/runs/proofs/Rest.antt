@@ -4,7 +4,7 @@ use Prim.Native.Nat.{ℕ, suc, _+_, _-_, _*_, _≤_, _<_}
 use mathlib.Core.Path.{_≡_, refl, sym, ap, _∙_}
 use mathlib.Core.Bool.{Bool, true, false}
 use mathlib.Core.List.{List, [], _∷_}
-use native.Mathlib.Nat.{sub-zero}
+use native.Mathlib.Nat.{sub-zero, zero-add}
 use native.Mathlib.Omega.{arith}
 use lib.ListN.{length, take, drop, length-drop}
 use lib.Seq.{drop-drop, length-take-le, take-take}
@@ -12,7 +12,8 @@ use borrow.Author.Tests.{le-leb, lt-leb}
 use Rattle.rules.specs.Runs.{Next, Walk, broken, cells, checkRun, ended, fits, free, freeOk, headCells, isFree, nextRun, objectOk, onward, readRun, run, runOf, walk, zoneWalk}
 use Rattle.rules.proofs.Bool.{split}
 use Rattle.rules.proofs.Laid.{read-says, says-cells, step-end, step-inv, walk-fuel}
-use Rattle.stage.specs.View.{part, seen}
+use Rattle.stage.specs.View.{Asked, Staged, part, seen}
+use Rattle.stage.proofs.Asked.{asked-seen}
 use Rattle.stage.proofs.View.{length-seen}
 use Rattle.runs.specs.Rest.{Meets, Passed, Zoned, metCells, metFree, restOf, walkOf, walkOn}
 use Rattle.rules.proofs.Sets.{drop-take}
@@ -38,9 +39,30 @@ module _ (v : List ℕ) (from n : ℕ) where
       let f : from + 64 * c + 64 * m ≡ from + 64 * (c + m) = omega arith in
       rw e (drop-take (64 * m) (64 * (n - (c + m))) (drop (from + 64 * c) v) ∙ ap (take (64 * (n - (c + m)))) (drop-drop (64 * m) (from + 64 * c) v ∙ ap (λ (x : ℕ). drop x v) f))
 
+  rest-from : (c : ℕ) → c ≤ n → drop (64 * c) (part (64 * n) from v) ≡ restOf v from n c
+  rest-from c h = let k : 0 + c ≤ n = omega arith in rw (← rest-start) (rest-drop 0 c k ∙ ap (restOf v from n) (zero-add c))
+
   pub rest-head : (c : ℕ) → c < n → take 16 (restOf v from n c) ≡ part 16 (from + 64 * c) v
   unfolding restOf part
   rest-head c h = take-take 16 (64 * (n - c)) (drop (from + 64 * c) v) (omega arith)
+
+-- ---- views with the same bytes in a zone
+
+pub record Same (v w : List ℕ) (from n : ℕ) : Type 0 where
+  pub bytes : part (64 * n) from v ≡ part (64 * n) from w
+
+pub same-asked : {p st : List ℕ} {k from n r : ℕ} → Staged p st k → Zoned p from n → Asked st k from (64 * n) r → Same (seen p st r) (seen p st k) from n
+same-asked s z a = record { bytes = asked-seen s a (z .even) (z .inside) }
+
+module _ {v w : List ℕ} {from n c : ℕ} (s : Same v w from n) (h : c ≤ n) where
+  rest-same : restOf v from n c ≡ restOf w from n c
+  rest-same = sym (rest-from v from n c h) ∙ ap (drop (64 * c)) (s .bytes) ∙ rest-from w from n c h
+
+  pub meets-same : {a : Bool} {m : ℕ} {f : Bool} → Meets v from n c a m f → Meets w from n c a m f
+  meets-same k = record { cells-is = rw (← rest-same) (k .cells-is); free-is = rw (← rest-same) (k .free-is) }
+
+  pub whole-same : (a : Bool) {x : Bool} → x ≡ walkOn a (restOf v from n c) .whole → x ≡ walkOn a (restOf w from n c) .whole
+  whole-same a k = rw (← rest-same) k
 
 -- ---- what is met, by the head
 

@@ -3,3 +3,4 @@ pub mod View
 pub mod Touched
 pub mod Counted
 pub mod Index
+pub mod Asked

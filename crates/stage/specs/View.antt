@@ -1,8 +1,9 @@
 -- The staged view: the pool's bytes with staged entries laid over them (01, "Transactions": later calls see earlier staged words). With no
 -- entries it is the pool itself. Assumes nothing.
-use Prim.Native.Nat.{ℕ, _*_, _%_, _^_, _≤_, _<_}
+use Prim.Native.Nat.{ℕ, _+_, _*_, _%_, _^_, _≤_, _<_}
 use mathlib.Core.Path.{_≡_}
-use mathlib.Core.List.{List}
+use mathlib.Core.Logic.{_⊎_}
+use mathlib.Core.List.{List, [], _∷_}
 use lib.ListN.{length, take, drop}
 use Rattle.rules.specs.Words.{digits, word}
 use Rattle.rules.specs.Staging.{Store, Tidy, entriesAt, lay}
@@ -23,6 +24,15 @@ pub record Staged (pool staging : List ℕ) (n : ℕ) : Type 0 where
   pub room : 16 * n ≤ length staging
   pub tidy : Tidy (entriesOf staging n)
   pub words : length pool % 8 ≡ 0
+
+-- No store is to one of the n bytes from place a on.
+abbrev pub Clear : ℕ → ℕ → List Store → Type 0
+Clear a n [] = Unit {0}
+Clear a n (x ∷ xs) = (a ≤ x .at → a + n ≤ x .at) × Clear a n xs
+
+-- r of m entries are to be asked for the n bytes from place a on: all, or none where no target lies there.
+pub record Asked (staging : List ℕ) (m a n r : ℕ) : Type 0 where
+  pub some : (r ≡ m) ⊎ ((r ≡ 0) × Clear a n (entriesOf staging m))
 
 -- The word of v at place a: its number, and its bytes.
 pub record Reads (v : List ℕ) (a r : ℕ) : Type 0 where

@@ -7,7 +7,7 @@ ghost use lib.ListN.{length};
 ghost use Rattle.rules.specs.Staging.{Tidy};
 ghost use Rattle.rules.specs.Words.{digits};
 ghost use Rattle.stage.specs.Index.{markCount, markOf, Blank, Indexed};
-ghost use Rattle.stage.specs.View.{entriesOf, seen, Reads, Staged};
+ghost use Rattle.stage.specs.View.{entriesOf, seen, Asked, Reads, Staged};
 ghost use Rattle.stage.specs.Touched.{added, missing, Room, Slot, Touched, TouchedWords};
 
 // The place of the entry for `target`, or `count` where there is none.
@@ -23,6 +23,24 @@ pub fn entry_index(staging: &[u8], count: usize, target: u64) -> usize
         i += 1;
     }
     i
+}
+
+// The entries to ask for the `n` bytes from `from` on: all, or none where no target lies there.
+pub fn entries_in(staging: &[u8], count: usize, from: usize, n: usize) -> usize
+    requires { ⌜ 16 * count ≤ length (now staging) ⌝ }
+    ensures { λ r. ⌜ Asked (now (staging .entry)) count from n r ⌝ }
+{
+    let mut i = 0;
+    while i < count {
+        let t = words::load64(staging, 16 * i) as usize;
+        if from <= t {
+            if t - from < n {
+                return count;
+            }
+        }
+        i += 1;
+    }
+    0
 }
 
 // The marks that targets share.

@@ -50,7 +50,7 @@ fn fits(cells: usize, free: bool, k: usize) -> bool
 }
 
 // The lowest zone's lowest free run of `k` cells or more. Each zone is judged whole by the one walk that searches it; the first run that
-// fits leaves both loops, once the rest of its zone is judged.
+// fits leaves both loops, once the rest of its zone is judged. In a zone without a target the pool alone is read.
 pub fn search(pool: &[u8], staging: &[u8], index: &[u8], count: usize, s: Shape, k: usize) -> Found
     requires { ⌜ Staged (now pool) (now staging) count × Shaped (now pool) (shapeOf s) × Indexed (now index) (now staging) count ⌝ }
     ensures { λ r. ⌜ foundOf r ≡ searchFrom (shapeOf s) (seen (now (pool .entry)) (now (staging .entry)) count) k 0 (s .zones) ⌝ }
@@ -62,16 +62,17 @@ pub fn search(pool: &[u8], staging: &[u8], index: &[u8], count: usize, s: Shape,
     'search: while z < zones {
         let place = zone(s, z);
         let cells = place.cells;
+        let e = stage::entries_in(staging, count, place.from, 64 * cells);
         let mut after = false;
         c = 0;
         while c < cells {
-            let m = runs::meet(pool, staging, index, count, place, c, after);
+            let m = runs::meet(pool, staging, index, e, place, c, after);
             n = m.cells;
             if n == 0 {
                 return Found::Refused(23);
             }
             if fits(n, m.free, k) {
-                if !runs::whole_from(pool, staging, index, count, place, c + n, m.free) {
+                if !runs::whole_from(pool, staging, index, e, place, c + n, m.free) {
                     return Found::Refused(23);
                 }
                 break 'search;

@@ -29,7 +29,7 @@ fn limits(p: &[u8], s: &mut [u8], body: &[u8]) {
 
 fn save(p: &mut [u8], s: &mut [u8], body: &[u8]) {
     let t = allocate(b"allocate 496 bytes: ", begin(), p, s, 5, body);
-    saving::run(t, p, s, 771);
+    saving::run(t, p, s);
 }
 
 // Two objects of eight cells fill the pool.

@@ -50,7 +50,8 @@ pub fn step(name: &[u8], t: Transaction, p: &mut [u8], s: &[u8]) -> Transaction 
 
 // Commits, at most `n` steps, and says the last answer and the checks of staging and pool.
 pub fn commit(name: &[u8], t: Transaction, p: &mut [u8], s: &[u8], n: usize) {
-    let r = saving::run(t, p, s, n);
+    let begun = t.commit(p, s);
+    let r = saving::steps(begun, p, s, n);
     let a = r.answer;
     answer(name, a);
     crate::report::check(b"  check of staging: ", s, 2032);

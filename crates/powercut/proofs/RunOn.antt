@@ -299,6 +299,11 @@ module _ (inp : Input) where
   accepted-again : (r : Recovery) (s : State) → Runs (resuming r) s → Accepted (recoveryOn (view s) r .answer) → AdvancedAgain r s (recoveryOn (view s) r)
   accepted-again r s u f = let w = recovery-place (view s) r (recovery-on-accepted (view s) r f) in advanced-again r s (w .0) u (w .1)
 
+  -- from any run, not only one by these calls
+  pub recovery-runs : (r : Recovery) (s : State) → Runs (resuming r) s → Accepted (recoveryOn (view s) r .answer)
+      → Runs (resuming (recoveryOn (view s) r .recovery)) (inRecovery pool staging ks r s (numberIn (recoveryOn (view s) r .answer)))
+  recovery-runs r s u f = accepted-again r s u f .run
+
   moments : {h : Holds} {s s′ : State} → Runs h s → Moment pool staging ks h s s′ → (h′ : Holds) × Runs h′ s′
   moments r (Moment.commits {t} {s} {j} f l) = let w = accepted-on t s r f .inner j l in (holding (w .0), w .1)
   moments u (Moment.recovers {r} {s} {j} f l) = let w = accepted-again r s u f .inner j l in (resuming (w .0), w .1)

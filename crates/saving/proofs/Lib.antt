@@ -1,3 +1,4 @@
+pub mod Calls
 pub mod AnswerKinds
 pub mod Saving
 pub mod Uncut

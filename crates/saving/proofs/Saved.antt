@@ -24,7 +24,7 @@ use Rattle.transaction.specs.declared.Transaction as Code
 use Rattle.transaction.specs.declared.Reply.{Reply}
 use Rattle.transaction.specs.Meaning.{afterOf, givenOf, transactionOf}
 use Rattle.saving.specs.Meaning.{outcomeOf}
-use Rattle.saving.specs.Saving.{Outcome, Saves, Told, committedFor, isDone, saveOn, saved, savedAs}
+use Rattle.saving.specs.Saving.{Outcome, Saves, Told, committed, isDone, saveOn, saved, savedAs}
 use Rattle.saving.proofs.Uncut.{Ended, commit-ends}
 use Rattle.powercut.proofs.RunMatches.{accepted-none, concluded}
 use Rattle.powercut.proofs.Refusals.{refused-is}
@@ -66,7 +66,7 @@ module _ (pool staging : List ℕ) (tag : ℕ) (body : List ℕ) where
   x = call (begun pool staging) (allocate tag body)
 
   abbrev y : After
-  y = committedFor 771 (x .left)
+  y = committed (x .left)
 
   abbrev ks : List Call
   ks = allocate tag body ∷ []
@@ -92,7 +92,7 @@ module _ (pool staging : List ℕ) (tag : ℕ) (body : List ℕ) where
 
     ended : isRefused (x .answer) ≡ false → Ended pool staging ks sound (typed, tt) y
     unfolding begun
-    ended f = subst (λ (g : Given). Ended pool staging ks sound (typed, tt) (committedFor 771 g)) made-left (commit-ends pool staging ks sound (typed, tt) (accepted-room (begun pool staging) (allocate tag body) f) 771 (omega arith))
+    ended f = subst (λ (g : Given). Ended pool staging ks sound (typed, tt) (committed g)) made-left (commit-ends pool staging ks sound (typed, tt) (accepted-room (begun pool staging) (allocate tag body) f))
 
     told-last : isRefused (x .answer) ≡ false → (savedAs (x .answer) y .answer ≡ x .answer) × Told pool tag body (savedAs (x .answer) y .pool) (savedAs (x .answer) y .answer)
     unfolding savedAs isDone
@@ -119,7 +119,7 @@ module _ (pool staging : List ℕ) (tag : ℕ) (body : List ℕ) where
   save-refused a h = saves _ (a .typed) (a .exact) (rw (sym (a .told) ∙ h))
 
   -- l is what the commit hands back, with the pool p
-  module _ {r : Reply} {st p : List ℕ} {b d : Bool} (a : Allocated pool staging tag body r st b) (f : b ≡ false) (l : Reply) (c : afterOf l p st ≡ committedFor 771 (givenOf (r .transaction) pool st)) (e : d ≡ isDone (answerOf (l .answer))) where
+  module _ {r : Reply} {st p : List ℕ} {b d : Bool} (a : Allocated pool staging tag body r st b) (f : b ≡ false) (l : Reply) (c : afterOf l p st ≡ committed (givenOf (r .transaction) pool st)) (e : d ≡ isDone (answerOf (l .answer))) where
     pub save-done : d ≡ true → Saves pool staging tag body (outcomeOf (r .answer) p st)
     unfolding saveOn savedAs
     save-done h = saves _ (a .typed) (a .exact) (rw (sym (a .told) ∙ f, sym c, sym e ∙ h))

@@ -1,4 +1,4 @@
--- A commit made step after step, as a caller makes it: it stops at done, at a refusal, or with its budget used up; and an object saved.
+-- A commit made call after call, as a caller makes it: it stops at done, at a refusal, or with its budget used up; and an object saved.
 -- Assumes nothing.
 use Prim.Native.Nat.{ℕ, zero, suc}
 use mathlib.Core.Bool.{Bool, true, false, _||_, cond}
@@ -9,7 +9,7 @@ use Rattle.rules.specs.Sound.{Sound, bookOf}
 use Rattle.rules.specs.Plan.{allocate}
 use Rattle.rules.specs.Calls.{begun, call}
 use Rattle.rules.specs.Answer.{After, Answer, Given, address, done, isRefused, passed, refused, started, stored, taken}
-use Rattle.powercut.specs.Commit.{commitStart, commitStep}
+use Rattle.powercut.specs.Commit.{commitOn, commitStart}
 
 unfoldable pub isDone : Answer → Bool
 isDone (address a) = false
@@ -24,14 +24,14 @@ isDone (refused n) = false
 unfoldable pub isEnd : Answer → Bool
 isEnd a = isDone a || isRefused a
 
--- At most n steps more, from what the last call answered and left.
-unfoldable pub stepsFrom : ℕ → After → After
-stepsFrom zero x = x
-stepsFrom (suc n) x = cond (isEnd (x .answer)) x (stepsFrom n (commitStep (x .left)))
+-- At most n calls f more, from what the last call answered and left.
+unfoldable pub callsFrom : (Given → After) → ℕ → After → After
+callsFrom f zero x = x
+callsFrom f (suc n) x = cond (isEnd (x .answer)) x (callsFrom f n (f (x .left)))
 
--- The commit's start, and at most n steps.
-unfoldable pub committedFor : ℕ → Given → After
-committedFor n g = stepsFrom n (commitStart g)
+-- The commit's start, and at most five calls, each up to the next barrier: a commit has five parts.
+unfoldable pub committed : Given → After
+committed g = callsFrom commitOn 5 (commitStart g)
 
 -- ---- An object saved: allocated in a fresh transaction, and committed.
 
@@ -48,9 +48,9 @@ outcome a g = record { answer = a; pool = g .pool; staging = g .staging }
 unfoldable pub savedAs : Answer → After → Outcome
 savedAs a y = outcome (cond (isDone (y .answer)) a (y .answer)) (y .left)
 
--- An allocate that is not refused is committed. No commit has more than 771 steps.
+-- An allocate that is not refused is committed.
 unfoldable pub saveOn : After → Outcome
-saveOn x = cond (isRefused (x .answer)) (outcome (x .answer) (x .left)) (savedAs (x .answer) (committedFor 771 (x .left)))
+saveOn x = cond (isRefused (x .answer)) (outcome (x .answer) (x .left)) (savedAs (x .answer) (committed (x .left)))
 
 unfoldable pub saved : List ℕ → List ℕ → ℕ → List ℕ → Outcome
 saved pool staging tag body = saveOn (call (begun pool staging) (allocate tag body))

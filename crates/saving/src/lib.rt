@@ -1,11 +1,12 @@
-// Callers of the transaction's and the recovery's calls, proved from the contracts of these alone: a commit made step after step, an object
+// Callers of the transaction's and the recovery's calls, proved from the contracts of these alone: a commit made step after step or part after part, an object
 // saved, one allocated and freed again, and a recovery driven to its end. No function has a `requires`.
 ghost use mathlib.Core.Path.{_≡_};
 ghost use Rattle.rules.specs.Answer.{isRefused};
 ghost use Rattle.answers.specs.Meaning.{answerOf};
 ghost use Rattle.transaction.specs.Meaning.{afterOf, givenOf};
 ghost use Rattle.recovery.specs.Meaning.{afterOf as recoveredOf};
-ghost use Rattle.saving.specs.Saving.{committedFor, isDone, isEnd, Saves, stepsFrom};
+ghost use Rattle.powercut.specs.Commit.{commitStep};
+ghost use Rattle.saving.specs.Saving.{callsFrom, committed, isDone, isEnd, Saves};
 ghost use Rattle.saving.specs.Meaning.{outcomeOf};
 ghost use Rattle.saving.specs.TakenBack.{addressIn, TakesBack};
 ghost use Rattle.saving.specs.Recovering.{Recovers};
@@ -40,7 +41,7 @@ fn ends(answer: Answer) -> bool
 
 // Makes at most `budget` steps more, from what the last call handed back.
 pub fn steps(reply: Reply, pool: &mut [u8], staging: &[u8], budget: usize) -> Reply
-    ensures { λ r. ⌜ afterOf r (now (pool .exit)) (now (staging .entry)) ≡ stepsFrom budget (afterOf reply (now (pool .entry)) (now (staging .entry))) ⌝ }
+    ensures { λ r. ⌜ afterOf r (now (pool .exit)) (now (staging .entry)) ≡ callsFrom commitStep budget (afterOf reply (now (pool .entry)) (now (staging .entry))) ⌝ }
 {
     let mut r = reply;
     let mut left = budget;
@@ -56,12 +57,22 @@ pub fn steps(reply: Reply, pool: &mut [u8], staging: &[u8], budget: usize) -> Re
     r
 }
 
-// Starts the commit and makes at most `budget` steps.
-pub fn run(txn: Transaction, pool: &mut [u8], staging: &[u8], budget: usize) -> Reply
-    ensures { λ r. ⌜ afterOf r (now (pool .exit)) (now (staging .entry)) ≡ committedFor budget (givenOf txn (now (pool .entry)) (now (staging .entry))) ⌝ }
+// Starts the commit and makes it, part after part: a commit has five.
+pub fn run(txn: Transaction, pool: &mut [u8], staging: &[u8]) -> Reply
+    ensures { λ r. ⌜ afterOf r (now (pool .exit)) (now (staging .entry)) ≡ committed (givenOf txn (now (pool .entry)) (now (staging .entry))) ⌝ }
 {
-    let reply = txn.commit(pool, staging);
-    steps(reply, pool, staging, budget)
+    let mut r = txn.commit(pool, staging);
+    let mut parts = 5usize;
+    while parts > 0 {
+        let answer = r.answer;
+        if ends(answer) {
+            return r;
+        }
+        let going = r.transaction;
+        r = going.advance(pool, staging);
+        parts -= 1;
+    }
+    r
 }
 
 // Saves an object: allocates it in a fresh transaction, and commits. Its address, or a refusal.
@@ -75,7 +86,7 @@ pub fn save(pool: &mut [u8], staging: &mut [u8], tag: u32, body: &[u8]) -> Answe
         return answer;
     }
     let txn = first.transaction;
-    let last = run(txn, pool, staging, 771);
+    let last = run(txn, pool, staging);
     let end = last.answer;
     if is_done(end) {
         return answer;
@@ -107,20 +118,20 @@ pub fn take_back(pool: &[u8], staging: &mut [u8], tag: u32, body: &[u8]) -> Repl
     txn.free(pool, staging, address_in(answer))
 }
 
-// Recovers the pool: no recovery has more than 2 × 127 + 5 steps. What the last call answered and handed back.
+// Recovers the pool, part after part: no recovery has more than three. What the last call answered and handed back.
 pub fn recover(pool: &mut [u8]) -> recovery::Reply
     ensures { λ r. ⌜ Recovers (now (pool .entry)) (recoveredOf r (now (pool .exit))) ⌝ }
 {
     let mut r = Recovery::start(pool);
-    let mut left = 259usize;
-    while left > 0 {
+    let mut parts = 3usize;
+    while parts > 0 {
         let last = r.answer;
         if ends(last) {
             return r;
         }
         let recovery = r.recovery;
-        r = recovery.step(pool);
-        left -= 1;
+        r = recovery.advance(pool);
+        parts -= 1;
     }
     r
 }

@@ -1,10 +1,10 @@
 -- The words of a body, bytes past its end 0; and words touched that hold a body and zeros after it. Assumes nothing.
 use Prim.Native.Nat.{ℕ, zero, suc, _+_, _-_, _*_, _^_, _≤_, _<_}
 use mathlib.Core.Path.{_≡_, refl, sym, ap, _∙_}
-use mathlib.Core.List.{List, [], _∷_, _++_}
+use mathlib.Core.List.{List, _++_}
 use native.Mathlib.Nat.{pow-le-pow-right, zero-lt-suc}
 use native.Mathlib.Omega.{arith}
-use lib.ListN.{length, getD, replicate, List·getD-eq-default}
+use lib.ListN.{length, replicate, List·getD-eq-default}
 use Rattle.rules.specs.Words.{field, number, word}
 use Rattle.rules.specs.Staging.{Store, touchWords}
 use Rattle.rules.proofs.Zeros.{then-zeros}

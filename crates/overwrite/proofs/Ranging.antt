@@ -5,13 +5,13 @@ use mathlib.Core.Logic.{_⊎_, inl, inr, ⊎-elim}
 use mathlib.Core.List.{List, [], _∷_}
 use native.Mathlib.Nat.{add-zero, add-suc, sub-zero}
 use native.Mathlib.Omega.{arith}
-use lib.ListN.{length, take, drop, set, take-append-drop}
+use lib.ListN.{length, take, drop, set}
 use lib.Seq.{sets, drop-drop, drop-set-add, length-take-le, take-take}
 use Rattle.rules.specs.Words.{digits, field, put, word}
 use Rattle.rules.specs.Staging.{Store, Tidy, touch, touchRange, touchWords, wordCount, wordFrom}
 use Rattle.rules.proofs.Words.{field-part, length-digits}
-use Rattle.rules.proofs.Sets.{drop-sets, drop-take, part-sets-before, sets-append}
-use Rattle.rules.proofs.Parts.{sets-cut, sets-from}
+use Rattle.rules.proofs.Sets.{drop-sets, drop-take, part-sets-before}
+use Rattle.rules.proofs.Parts.{sets-from}
 use Rattle.rules.proofs.Staging.{lay-touch, tidy-touch}
 use Rattle.stage.specs.View.{Reads, Staged, entriesOf, part, seen}
 use Rattle.stage.specs.Touched.{Grown, Room, Touched, added}

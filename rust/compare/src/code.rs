@@ -13,8 +13,8 @@ pub type Functions = BTreeMap<String, Function>;
 #[derive(Debug, Default)]
 pub struct Function {
     code: Vec<Instruction>,
-    /// Where jumps through a table go.
-    targets: BTreeSet<usize>,
+    /// Where jumps through a table go, by the table's place in its section.
+    targets: BTreeMap<usize, BTreeSet<usize>>,
 }
 
 #[derive(Clone, Debug)]
@@ -87,11 +87,8 @@ fn read_tables(archive: &str, functions: &mut Functions) {
         } else if let (Some(function), Some((at, target))) = (functions.get_mut(name), line.split_once(" R_X86_64_PC32 ")) {
             let at = usize::from_str_radix(at, 16).expect("a place");
             let target = target.trim().strip_prefix(&format!(".text.{name}+")).and_then(number).expect("a target in the function");
-            let section = format!(".rodata.{name}");
-            let tables = function.code.iter().filter_map(|i| i.symbol.as_deref()?.strip_prefix(&section));
-            let begins = tables.map(|more| more.strip_prefix('+').and_then(number).map_or(0, |more| more as usize + 4));
-            let begin = begins.filter(|&begin| begin <= at).max().expect("a table");
-            function.targets.insert(target as usize - (at - begin));
+            let begin = function.code.iter().filter_map(Instruction::table).filter(|&begin| begin <= at).max().expect("a table");
+            function.targets.entry(begin).or_default().insert(target as usize - (at - begin));
         }
     }
 }
@@ -164,6 +161,12 @@ const LAST_ONLY: &str =
     punpcklqdq punpckhqdq unpcklpd unpckhpd pcmpeqb pcmpeqd pmovmskb movmskps bswap tzcnt bsf";
 
 impl Instruction {
+    /// The place of the table of jumps that this instruction names, in its section.
+    fn table(&self) -> Option<usize> {
+        let section = self.symbol.as_deref()?.strip_prefix(".rodata.")?;
+        Some(section.split_once('+').and_then(|(_, more)| number(more)).map_or(0, |more| more as usize + 4))
+    }
+
     fn is(&self, names: &[&str]) -> bool {
         names.contains(&self.name.as_str())
     }
@@ -343,15 +346,52 @@ pub fn effects(functions: &Functions, name: &str) -> Effects {
     effects
 }
 
+impl Function {
+    /// The instructions that can come right after instruction n.
+    fn next(&self, n: usize) -> Vec<usize> {
+        let (i, number) = (&self.code[n], |at: usize| self.code.iter().position(|i| i.at == at).expect("an instruction"));
+        let mut next = Vec::new();
+        if i.is_jump() && !i.leaves() {
+            assert!(i.symbol.is_none(), "a jump by way of a symbol: {i:?}");
+            match i.last().split(' ').next().filter(|at| !at.starts_with('*')) {
+                Some(at) => next.push(number(usize::from_str_radix(at, 16).expect("an address"))),
+                None => next.extend(self.targets[&self.table(n)].iter().map(|&target| number(target))),
+            }
+        }
+        if !i.ends() {
+            next.push(n + 1);
+        }
+        next
+    }
+
+    /// The table that jump n goes through: its entry is loaded right before, and its place before that, with no jump or call between.
+    fn table(&self, n: usize) -> usize {
+        let (jump, before) = (&self.code[n], &self.code[n.saturating_sub(6)..n]);
+        let loaded = |load: &Instruction| load.is(&["movslq"]) && jump.last().strip_prefix('*') == Some(load.last());
+        assert!(before.iter().any(loaded), "a jump that is not through a table: {jump:?}");
+        let straight = before.iter().rev().take_while(|i| !i.is_jump() && !i.is(&["call"]));
+        straight.filter_map(Instruction::table).next().unwrap_or_else(|| panic!("a jump through no known table: {jump:?}"))
+    }
+}
+
+/// Whether a way through the function leads from one of these instructions of it to another, or back to the same.
+pub fn one_after_another(functions: &Functions, name: &str, these: &[Instruction]) -> bool {
+    let function = &functions[name];
+    let is_one = |n: usize| these.iter().any(|i| i.at == function.code[n].at);
+    (0..function.code.len()).filter(|&n| is_one(n)).any(|from| {
+        let (mut seen, mut waiting) = (BTreeSet::new(), function.next(from));
+        while let Some(n) = waiting.pop() {
+            if seen.insert(n) {
+                waiting.extend(function.next(n));
+            }
+        }
+        seen.into_iter().any(is_one)
+    })
+}
+
 /// What is known before each instruction; none if no way leads to it.
-fn states(Function { code, targets }: &Function) -> Vec<Option<State>> {
-    let number: BTreeMap<usize, usize> = code.iter().enumerate().map(|(n, i)| (i.at, n)).collect();
-    let in_tables: Vec<usize> = targets.iter().map(|target| number[target]).collect();
-    let target = |i: &Instruction| -> Option<usize> {
-        assert!(i.symbol.is_none(), "a jump by way of a symbol: {i:?}");
-        let at = i.last().split(' ').next().filter(|at| !at.starts_with('*'))?;
-        Some(number[&usize::from_str_radix(at, 16).expect("an address")])
-    };
+fn states(function: &Function) -> Vec<Option<State>> {
+    let code = &function.code;
     let mut states = vec![None; code.len()];
     let mut waiting = vec![(0, State::at_entry())];
     while let Some((n, state)) = waiting.pop() {
@@ -362,20 +402,8 @@ fn states(Function { code, targets }: &Function) -> Vec<Option<State>> {
         if same {
             continue;
         }
-        let (i, next) = (&code[n], met.after(&code[n]));
-        if i.is_jump() && !i.leaves() {
-            match target(i) {
-                Some(target) => waiting.push((target, next.clone())),
-                None => {
-                    let loaded = |load: &Instruction| load.is(&["movslq"]) && i.last().strip_prefix('*') == Some(load.last());
-                    assert!(code[n.saturating_sub(4)..n].iter().any(loaded), "a jump that is not through a table: {i:?}");
-                    waiting.extend(in_tables.iter().map(|&target| (target, next.clone())));
-                }
-            }
-        }
-        if !i.ends() {
-            waiting.push((n + 1, next));
-        }
+        let next = met.after(&code[n]);
+        waiting.extend(function.next(n).into_iter().map(|n| (n, next.clone())));
     }
     states
 }

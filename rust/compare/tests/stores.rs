@@ -1,11 +1,11 @@
-//! A step stores one word of the pool, with one instruction; a call that goes on to the next barrier stores each word with one instruction.
-//! The proof speaks of eight byte assignments; that the memory keeps or loses them whole rests on the compiler having made one store of
-//! them, and no wider one of two words, which is read here off the compiled code.
+//! A step stores one word of the pool, with one instruction, on every way through its code; a call that goes on to the next barrier stores
+//! each word with one instruction. The proof speaks of eight byte assignments; that the memory keeps or loses them whole rests on the
+//! compiler having made one store of them, and no wider one of two words, which is read here off the compiled code.
 //!
 //! Looked at is every instruction of the function and of all functions that it calls, in turn. A write goes to a stack frame, or through
 //! the pointer under which the caller wants the answer, or it counts as a store, through whatever register. Each function called must be one
 //! of the library's own (so neither memcpy nor memset). An instruction of which it is not known whether it writes fails the test.
-use compare::code::{effects, functions, parsed, Functions, Instruction, Pointer};
+use compare::code::{effects, functions, one_after_another, parsed, Functions, Instruction, Pointer};
 use std::collections::BTreeSet;
 
 /// What a function does to memory beside stack frames, with all functions that it calls, in turn.
@@ -57,11 +57,19 @@ fn stores_of_words(functions: &Functions, function: &str) -> Vec<(String, Instru
     stores
 }
 
+/// Whether a function stores a word, itself, and no way through it leads from one store to another.
+fn stores_one_word(functions: &Functions, function: &str) -> bool {
+    let stores = stores_of_words(functions, function);
+    assert!(stores.iter().all(|(by, _)| by == function), "{function}: stores by functions that it calls");
+    let stores: Vec<Instruction> = stores.into_iter().map(|(_, store)| store).collect();
+    !stores.is_empty() && !one_after_another(functions, function, &stores)
+}
+
 #[test]
 fn a_step_stores_one_word() {
     let functions = functions(linked::ARCHIVE);
     for step in ["pool_commit_step", "pool_recover_step"] {
-        assert_eq!(stores_of_words(&functions, step).len(), 1, "{step}");
+        assert!(stores_one_word(&functions, step), "{step}");
     }
 }
 
@@ -111,6 +119,38 @@ fn writes_are_told_apart() {
     for (function, result, others) in [("two", 1, 2), ("either", 0, 1)] {
         let does = effects(&functions, function);
         assert_eq!((does.result.len(), does.others.len()), (result, others), "{function}: {does:?}");
+    }
+}
+
+/// One store on each of two ways, two on one way, and one in a loop.
+#[test]
+fn stores_on_one_way_are_told_apart() {
+    let functions = parsed(
+        "0000000000000000 <either>:
+   0:\tmov    %rdx,(%rdi)
+   3:\ttest   %rdx,%rdx
+   6:\tje     d <either+0xd>
+   8:\tmov    %rdx,(%rsi)
+   b:\tret
+   d:\tmov    %rdx,0x8(%rsi)
+  11:\tret
+0000000000000000 <both>:
+   0:\tmov    %rdx,(%rdi)
+   3:\ttest   %rdx,%rdx
+   6:\tje     b <both+0xb>
+   8:\tmov    %rdx,(%rsi)
+   b:\tmov    %rdx,0x8(%rsi)
+   f:\tret
+0000000000000000 <repeated>:
+   0:\tmov    %rdx,(%rdi)
+   3:\tmov    %rdx,(%rsi)
+   6:\tdec    %rdx
+   9:\tjne    3 <repeated+0x3>
+   b:\tret
+",
+    );
+    for (function, one) in [("either", true), ("both", false), ("repeated", false)] {
+        assert_eq!(stores_one_word(&functions, function), one, "{function}");
     }
 }
 

@@ -44,7 +44,7 @@ module _ (sh : Shape) (p : List ℕ) (at n k : ℕ) (es : List ℕ) (j : ℕ) (e
 
 -- ---- the seals, cleared
 
-pub seals-part : (sh : Shape) (p : List ℕ) (at n k : ℕ) {q : List ℕ} {r : ℕ} → 2 * n + 2 ≤ k → k < 2 * n + 5 → PartMade sh (recoverySteps sh p clear) (k - (2 * n + 2)) 2 p q r
+pub seals-part : (sh : Shape) (p : List ℕ) (at n k : ℕ) {q : List ℕ} {r : ℕ} → 2 * n + 1 < k → k < 2 * n + 5 → PartMade sh (recoverySteps sh p clear) (k - (2 * n + 2)) 2 p q r
     → PartMade sh (redo sh (read p at n)) k (redoBarrier n k) p q (2 * n + 2 + r)
 unfolding recoverySteps
 seals-part sh p at n k l h m = redo-by-seals sh p at n k (omega arith) (omega arith) h (unfold sealSteps in m)

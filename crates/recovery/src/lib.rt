@@ -294,9 +294,11 @@ fn make_part(work: Remedy, k: usize, s: Shape, pool: &mut [u8]) -> usize
     requires { ⌜ Shaped (now pool) (shapeOf s) × (impossibleAt (shapeOf s) (now pool) (remedyOf work) k ≡ false) ⌝ }
     ensures { λ r. ⌜ PartMade (shapeOf s) (recoverySteps (shapeOf s) (now (pool .entry)) (remedyOf work)) k (recoveryBarrier (remedyOf work) k) (now (pool .entry)) (now (pool .exit)) r ⌝ }
 {
+    let a = s.log_a();
+    let b = s.log_b();
     match work {
-        Remedy::ReplayA(n) => replay_part(s, pool, s.log_a(), n, k),
-        Remedy::ReplayB(n) => replay_part(s, pool, s.log_b(), n, k),
+        Remedy::ReplayA(n) => replay_part(s, pool, a, n, k),
+        Remedy::ReplayB(n) => replay_part(s, pool, b, n, k),
         Remedy::Clear => actions::parts::clear_part(s, pool, k),
         Remedy::Nothing => 0,
         Remedy::Neither => 0,
@@ -309,7 +311,7 @@ fn replay_part(s: Shape, pool: &mut [u8], b: usize, n: usize, k: usize) -> usize
     requires { ⌜ Shaped (now pool) (shapeOf s) × Ready (shapeOf s) (now pool) (now pool) (b + 16) n k × (k < 2 * n + 5) ⌝ }
     ensures { λ r. ⌜ PartMade (shapeOf s) (redo (shapeOf s) (read (now (pool .entry)) (b + 16) n)) k (redoBarrier n k) (now (pool .entry)) (now (pool .exit)) r ⌝ }
 {
-    if 2 * n + 2 <= k {
+    if 2 * n + 1 < k {
         return 2 * n + 2 + actions::parts::clear_part(s, pool, k - (2 * n + 2));
     }
     let mut entries = [0u8; 2032];

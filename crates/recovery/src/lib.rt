@@ -294,9 +294,11 @@ fn make_part(work: Remedy, k: usize, s: Shape, pool: &mut [u8]) -> usize
     requires { ⌜ Shaped (now pool) (shapeOf s) × (impossibleAt (shapeOf s) (now pool) (remedyOf work) k ≡ false) ⌝ }
     ensures { λ r. ⌜ PartMade (shapeOf s) (recoverySteps (shapeOf s) (now (pool .entry)) (remedyOf work)) k (recoveryBarrier (remedyOf work) k) (now (pool .entry)) (now (pool .exit)) r ⌝ }
 {
+    let a = s.log_a();
+    let b = s.log_b();
     match work {
-        Remedy::ReplayA(n) => actions::replays::replay_part(s, pool, s.log_a() + 16, n, k),
-        Remedy::ReplayB(n) => actions::replays::replay_part(s, pool, s.log_b() + 16, n, k),
+        Remedy::ReplayA(n) => actions::replays::replay_part(s, pool, a + 16, n, k),
+        Remedy::ReplayB(n) => actions::replays::replay_part(s, pool, b + 16, n, k),
         Remedy::Clear => actions::parts::clear_part(s, pool, k),
         Remedy::Nothing => 0,
         Remedy::Neither => 0,

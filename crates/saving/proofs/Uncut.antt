@@ -22,7 +22,7 @@ use Rattle.powercut.specs.Steps.{Step, barrier, parity, store}
 use Rattle.powercut.specs.Power.{State, view}
 use Rattle.powercut.specs.Commit.{commitList, commitOn, commitStart, madeAnswer, nextPhase, startAnswer, startPhase, stepAnswer}
 use Rattle.powercut.specs.Advance.{RunOn, commitBarrier, commitMade, inCommit, numberIn}
-use Rattle.powercut.specs.WholeRun.{Accepted, Run, atFirst, holding, made, meets}
+use Rattle.powercut.specs.WholeRun.{Accepted, Makes, Run, atFirst, holding, made, meets}
 use Rattle.powercut.specs.Claim.{new}
 use Rattle.powercut.proofs.RunMatches.{Input, concluded, list-length, live-is, start-left, start-none}
 use Rattle.powercut.proofs.PowerCut.{phase-end, phase-on, power-cut}
@@ -150,7 +150,7 @@ module _ (pool staging : List ℕ) (ks : List Call) (sound : Sound pool) (typed 
   input = record { pool = pool; staging = staging; ks = ks; sound = sound; typed = typed }
 
   along-start : Accepted (commitStart g₀ .answer) → Along (commitStart g₀)
-  along-start f = record { s = s₀; run = RunOn.commit RunOn.begin f; met = start-given g₀ f }
+  along-start f = record { s = s₀; run = RunOn.next RunOn.begin (Makes.commit f); met = start-given g₀ f }
 
   phase-start : Accepted (commitStart g₀ .answer) → (n : ℕ) → t₀ .count ≡ n → commitStart g₀ .left .txn .phase ≡ startPhase n
   phase-start f n e = ap (λ (x : Transaction). x .phase) (start-left g₀ (start-none g₀ f)) ∙ ap startPhase e

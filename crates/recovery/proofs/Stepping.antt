@@ -211,10 +211,10 @@ module _ (s : Shape) (p : List ℕ) (v : Recovery) where
         rw (none-refused, g .0, e, f, add-one k, computed-pool (shapeOf s) p x _ a (length p) c refl)
         (replied-leaves (stepPool (shapeOf s) x p) x a k (told-answer (suc k) a ∙ computed-answer (shapeOf s) p x _ a (length p) (suc k) c refl))
 
-    pub advance-made : (q : List ℕ) (m : ℕ) (r : Reply) → PartMade (shapeOf s) (recoverySteps (shapeOf s) p (remedyOf (v .work))) k (recoveryBarrier (remedyOf (v .work)) k) p q m
-        → r ≡ replied (v .work) Barrier m (stepCount (remedyOf (v .work))) → afterOf r q ≡ advanced (shapeOf s) p (recoveryOf v)
+    pub advance-made : (q : List ℕ) (m j : ℕ) (r : Reply) → PartMade (shapeOf s) (recoverySteps (shapeOf s) p (remedyOf (v .work))) k (recoveryBarrier (remedyOf (v .work)) k) p q m
+        → r ≡ replied (v .work) Barrier j (stepCount (remedyOf (v .work))) → j ≡ m → afterOf r q ≡ advanced (shapeOf s) p (recoveryOf v)
     unfolding advanced Paper.concludeRecovery Paper.doneSteps madeAnswer
-    advance-made q m r c e = rw (none-refused, g .0, e, c .number, c .bytes) (replied-leaves _ barrier Barrier (recoveryBarrier (remedyOf (v .work)) k) refl)
+    advance-made q m j r c e i = rw (none-refused, g .0, e, i, c .number, c .bytes) (replied-leaves _ barrier Barrier (recoveryBarrier (remedyOf (v .work)) k) refl)
 
 -- ---- a call, where the pool opens
 

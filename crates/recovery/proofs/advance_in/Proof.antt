@@ -1,4 +1,5 @@
 -- `recovery::advance_in` meets its contract. Assumes nothing.
+use native.Mathlib.Omega.{arith}
 use Rattle.recovery.proofs.Stepping.{advance-made, advance-refusal, at-found, possible, refused-found}
 use borrow.Author.Needs.{needs}
 use Rattle.recovery.proofs.advance_in.Statement.{statement}
@@ -14,7 +15,7 @@ returns : tie.Need-returns
 returns c = let a = c .before .before .before .before .before .before in advance-refusal (a .args .s) _ (a .args .recovery) _ (refused-found (a .args .s) _ (a .args .recovery) (c .before .before .before .judge .ensures) (c .before .n .given .1))
 
 returns-2 : tie.Need-returns-2
-returns-2 c = let a = c .before .before .before .before .before .before .before .before .before .before .before in advance-made (a .args .s) _ (a .args .recovery) _ (at-found (a .args .s) _ (a .args .recovery) (c .before .before .before .before .before .before .before .before .judge .ensures) (c .before .before .before .before .before .before .k .given .1)) _ _ _ (c .before .before .before .make-part .ensures) (c .told .ensures)
+returns-2 c = let a = c .before .before .before .before .before .before .before .before .before .before .before in advance-made (a .args .s) _ (a .args .recovery) _ (at-found (a .args .s) _ (a .args .recovery) (c .before .before .before .before .before .before .before .before .judge .ensures) (c .before .before .before .before .before .before .k .given .1)) _ _ _ _ (c .before .before .before .make-part .ensures) (c .told .ensures) (omega arith)
 
 pub advance-in-spec : {M : Type 1} → statement M
 advance-in-spec =

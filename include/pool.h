@@ -15,7 +15,7 @@
  * on a cached x86-64, clwb for each line stored to, then sfence. docs/DEVICE.md says more, docs/REFUSALS.md what to do when a call is
  * refused.
  *
- * The library needs memcpy and memset, has no data, runs at any address, and takes at most 768 bytes of stack. It uses the SSE2
+ * The library needs memcpy and memset, has no data, runs at any address, and takes at most 1,152 bytes of stack. It uses the SSE2
  * registers, which interrupt code must save, and the 128 bytes below the stack pointer, which interrupt code must leave alone. Between
  * two calls nothing is kept but what the caller holds.
  *

@@ -14,9 +14,6 @@ pub between-past : (k j : ℕ) (xs : List Step) → j ≤ k → between k j xs �
 unfolding between
 between-past k j xs l = ap (λ (m : ℕ). take m (drop k xs)) {x = j - k} {y = 0} (omega arith)
 
-pub between-none : (k : ℕ) (xs : List Step) → between k k xs ≡ []
-between-none k xs = between-past k k xs (omega arith)
-
 pub between-next : (k j : ℕ) (xs : List Step) → k < j → k < length xs → between k j xs ≡ getD xs k barrier ∷ between (suc k) j xs
 unfolding between
 between-next k j xs l i = ap (λ (m : ℕ). take m (drop k xs)) {x = j - k} {y = suc (j - suc k)} (omega arith) ∙ ap (take (suc (j - suc k))) (drop-cons xs k barrier i)

@@ -7,7 +7,7 @@ use mathlib.Core.List.{List, [], _∷_}
 use Prim.Native.Nat.{ℕ, suc, _+_, _*_, _/_, _%_, _^_, _≤_, _<_}
 use native.Mathlib.Nat.{mul-mod-left}
 use native.Mathlib.Omega.{arith}
-use borrow.Author.Tests.{eq-eqb, eqb-true, le-leb, leb-true, lt-ltb}
+use borrow.Author.Tests.{eq-eqb, eqb-true, le-leb, lt-ltb}
 use lib.Dec.{leb, ltb, eqb}
 use lib.Arith.{digits-div, digits-mod}
 use lib.ListN.{length}
@@ -167,15 +167,6 @@ module _ (es : List Store) (few : length es ≤ entryLimit) where
   seal-check = digits-mod (sealMark * 2 ^ 16 + length es) (entries-check es)
 
 -- ---- which log is valid
-
--- a valid log has at most 127 entries
-pub valid-few : (sh : Shape) (p : List ℕ) (b : ℕ) → valid sh p b ≡ true → countIn (word p b) ≤ entryLimit
-unfolding valid
-valid-few sh p b e =
-    let h = and-split (eqb (markIn (word p b)) sealMark) _ e in
-    let k = and-split (leb 1 (countIn (word p b))) _ (h .1) in
-    let m = leb-true (countIn (word p b)) _ (and-split _ _ (k .1) .0) in
-    omega arith
 
 -- and good targets
 pub log-targets : (sh : Shape) (p : List ℕ) (b : ℕ) → valid sh p b ≡ true → goodTargets sh (entriesAt p (b + logHead) (countIn (word p b))) ≡ true

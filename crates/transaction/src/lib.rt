@@ -147,6 +147,7 @@ impl Transaction {
             Opened::Good(s) => stepped(commit::step(s, pool, staging, txn)),
         }
     }
+
     // Makes all steps of the commit up to and with the next barrier.
     pub fn advance(self, pool: &mut [u8], staging: &[u8]) -> Reply
         ensures { λ r. ⌜ afterOf r (now (pool .exit)) (now (staging .entry)) ≡ commitOn (givenOf self (now (pool .entry)) (now (staging .entry))) ⌝ }

@@ -14,16 +14,16 @@ use Rattle.rules.specs.Words.{ascii, digits, field, number, put, word}
 use Rattle.rules.specs.Check.{check, high, low, reduced, residue, updated}
 use Rattle.rules.specs.Shape.{Shape, byteAt, logA, logB, off, parityAt, poolSize, row, rowAt, zone, zoneAt, zoneCells}
 use Rattle.rules.specs.Test.{first}
-use Rattle.rules.specs.Header.{differing, headerBytes, headerFront, headerId, headerOk, headerShape, inRange, letters, openTests, pageAt, same, shapeIn, validHeader, within}
+use Rattle.rules.specs.Header.{differing, headerBytes, headerFront, headerId, headerOk, headerShape, idIn, inRange, letters, openTests, pageAt, same, shapeIn, validHeader, within}
 use Rattle.rules.specs.Runs.{Run, Walk, cellsFor, checkRun, checkWord, fits, free, freeHead, freeOk, headBytes, nextRun, object, objectBytes, objectOk, onward, readRun, runOf, walk, zoneWalk}
 use Rattle.rules.specs.Book.{Listed, book, enter, find, overwrite, strike}
 use Rattle.rules.specs.Search.{Place, fit, joined, runAt}
 use Rattle.rules.specs.Zones.{allGood, bodyOf, bookFrom, goodFrom, headAt, isDamaged, isObject, objectTests, poolBook, runThere, runsFrom, walkIn, zoneData}
 use Rattle.rules.specs.Seals.{readTests, unsealed}
-use Rattle.rules.specs.Staging.{Phase, Store, Transaction, closed, commitLength, committing, entriesAt, entryBytes, goodTarget, goodTargets, impossible, isLive, lay, live, pastCommit, touch, touchRange, touchWords, wordCount, wordFrom}
+use Rattle.rules.specs.Staging.{Phase, Store, closed, commitLength, committing, entriesAt, entryBytes, fresh, goodTarget, goodTargets, impossible, isLive, lay, live, pastCommit, touch, touchRange, touchWords, unusable, wordCount, wordFrom}
 use Rattle.rules.specs.Answer.{Given, address, conclude, concludePool, refused, taken}
 use Rattle.rules.specs.Plan.{Plan, allocate, failed, fitAddress, fitIn, fitTest, fitted, joinedAt, plan, release, search, touchFree, touchJoined, touchObject, touchWrite, write}
-use Rattle.rules.specs.Calls.{begun, call, callTests, calls, entriesIn, liveTests, recordTests, staged}
+use Rattle.rules.specs.Calls.{begun, call, callTests, calls, concludeStart, entriesIn, liveTests, recordTests, staged, transactionStart}
 use Rattle.rules.specs.NewBook.{newBook, newBooks, onAddress, onTaken}
 use Rattle.rules.specs.Parity.{columnByte, parityWord, xorTo}
 use Rattle.rules.specs.Look.{concludeLook, look, lookTests, part, refused as lookRefused, seen}
@@ -35,7 +35,7 @@ use Rattle.rules.specs.Scan.{brokenLine, columnsLine, concludeScan, deci
 
 -- Each definition of the rules that computes, opened at once.
 opened : Unit {0}
-unfolding number digits field word put reduced low high check updated poolSize zoneCells zoneAt byteAt zone row off rowAt first same within inRange headerFront headerBytes pageAt headerShape headerId headerOk validHeader shapeIn differing openTests cellsFor freeOk objectOk runOf readRun fits checkRun nextRun onward walk zoneWalk headBytes freeHead objectBytes checkWord book enter strike overwrite find fit runAt joined zoneData walkIn runsFrom bookFrom poolBook allGood goodFrom runThere isObject isDamaged bodyOf headAt objectTests unsealed readTests touch touchWords wordFrom wordCount touchRange isLive commitLength pastCommit impossible conclude concludePool fitIn search fitTest fitAddress touchFree touchObject touchWrite joinedAt touchJoined plan entriesIn recordTests liveTests callTests staged call calls begun onAddress onTaken newBook newBooks xorTo parityWord tabFrom repaired anyAbove anyTwo repairTests mended countRuns countTo allTo sumTo columnRight wrongColumns brokenZones objectsMet damagedMet freshZone freshZones freshPool formatTests decimalTo decimal quality runText runLine brokenLine zoneLines zonesText poolLine columnsLine poolText scanTests concludeScan poolscan lookTests concludeLook look seen mendHeader concludeScrub scrub ones onesIn
+unfolding number digits field word put reduced low high check updated poolSize zoneCells zoneAt byteAt zone row off rowAt first same within inRange headerFront headerBytes pageAt headerShape headerId headerOk validHeader shapeIn idIn differing openTests cellsFor freeOk objectOk runOf readRun fits checkRun nextRun onward walk zoneWalk headBytes freeHead objectBytes checkWord book enter strike overwrite find fit runAt joined zoneData walkIn runsFrom bookFrom poolBook allGood goodFrom runThere isObject isDamaged bodyOf headAt objectTests unsealed readTests touch touchWords wordFrom wordCount touchRange isLive commitLength pastCommit impossible conclude concludePool fitIn search fitTest fitAddress touchFree touchObject touchWrite joinedAt touchJoined plan entriesIn concludeStart transactionStart recordTests liveTests callTests staged call calls begun onAddress onTaken newBook newBooks xorTo parityWord tabFrom repaired anyAbove anyTwo repairTests mended countRuns countTo allTo sumTo columnRight wrongColumns brokenZones objectsMet damagedMet freshZone freshZones freshPool formatTests decimalTo decimal quality runText runLine brokenLine zoneLines zonesText poolLine columnsLine poolText scanTests concludeScan poolscan lookTests concludeLook look seen mendHeader concludeScrub scrub ones onesIn
 opened = tt
 
 abbrev shape : ℕ → ℕ → ℕ → ℕ → Shape
@@ -506,8 +506,34 @@ write-refusals = (refl, refl, refl, refl)
 
 -- ---- Whole calls on the smallest pool
 
+-- On bytes that are no pool; their id reads as 0.
+abbrev givenOf : ℕ → ℕ → Phase → Given
+givenOf id n ph = record { pool = []; staging = replicate 2032 0; txn = record { id = id; count = n; phase = ph } }
+
 abbrev given : ℕ → Phase → Given
-given n ph = record { pool = []; staging = replicate 2032 0; txn = record { count = n; phase = ph } }
+given = givenOf 0
+
+-- A transaction is begun with the pool's id: that of the first valid header. Without a header, or with a seal set, it is not, and the record
+-- handed back is closed and has id 0.
+pub idIn-is :
+    (idIn (freshPool smallest 7) ≡ 7) × (idIn (set (freshPool smallest 7) 8 9) ≡ 7) × (idIn (set (freshPool smallest 7) 264 9) ≡ 7)
+    × (idIn (set (set (freshPool smallest 7) 0 0) 8 9) ≡ 7)
+unfolding opened
+idIn-is = (refl, refl, refl, refl)
+
+pub transactionStart-is :
+    (transactionStart (freshPool smallest 7) ≡ record { answer = taken; txn = record { id = 7; count = 0; phase = live } })
+    × (transactionStart [] ≡ record { answer = refused 2; txn = record { id = 0; count = 0; phase = closed } })
+    × (transactionStart (set (freshPool smallest 7) 512 1) ≡ record { answer = refused 21; txn = record { id = 0; count = 0; phase = closed } })
+unfolding opened
+transactionStart-is = (refl, refl, refl)
+
+-- A record of another pool is refused, closed or not.
+pub call-other-pool :
+    (call (record { pool = freshPool smallest 1; staging = replicate 2032 0; txn = fresh 2 }) (release 0) .answer ≡ refused 11)
+    × (call (record { pool = freshPool smallest 1; staging = replicate 2032 0; txn = unusable }) (release 0) .answer ≡ refused 11)
+unfolding opened
+call-other-pool = (refl, refl)
 
 -- Allocate answers address 0 and stages 10 entries; staging bytes beyond them stay.
 pub call-allocate :
@@ -525,13 +551,14 @@ pub calls-in-turn : calls (begun objectPool (replicate 2032 0)) (release 3 ∷ r
 unfolding opened
 calls-in-turn = refl
 
--- Behind 2, 3, 4, 2: 9 staging under 2,032 bytes; 10 committing without entries. Then 29 not open.
+-- Behind 2, 3, 4, 2: 9 staging under 2,032 bytes; 10 committing without entries; 11 another pool's. Then 29 not open.
 pub call-refusals :
-    (first (drop 4 (recordTests (begun [] (replicate 2031 0)))) ≡ some 9) × (first (drop 4 (recordTests (begun [] (replicate 2032 0)))) ≡ none)
-    × (first (drop 4 (recordTests (given 0 (committing 0)))) ≡ some 10) × (first (liveTests (given 0 closed)) ≡ some 29)
+    (first (drop 4 (recordTests (begun [] (replicate 2031 0)))) ≡ some 9) × (first (drop 4 (recordTests (given 0 live))) ≡ none)
+    × (first (drop 4 (recordTests (givenOf 1 0 (committing 0)))) ≡ some 10) × (first (drop 4 (recordTests (givenOf 1 0 closed))) ≡ some 11)
+    × (first (liveTests (given 0 closed)) ≡ some 29)
     × (first (liveTests (given 0 (committing 0))) ≡ some 29) × (first (liveTests (given 0 live)) ≡ none)
 unfolding opened
-call-refusals = (refl, refl, refl, refl, refl, refl)
+call-refusals = (refl, refl, refl, refl, refl, refl, refl)
 
 -- A refusal leaves pool, staging and record as given.
 pub call-refused-changes-nothing :
@@ -549,8 +576,8 @@ abbrev touching : List Store → Plan
 touching es = record { tests = []; answer = taken; entries = es }
 
 pub callTests-limit :
-    (first (drop 8 (callTests (given 0 live) (touching (stores 4608 127)))) ≡ none)
-    × (first (drop 8 (callTests (given 0 live) (touching (stores 4608 128)))) ≡ some 27)
+    (first (drop 9 (callTests (given 0 live) (touching (stores 4608 127)))) ≡ none)
+    × (first (drop 9 (callTests (given 0 live) (touching (stores 4608 128)))) ≡ some 27)
 unfolding opened
 callTests-limit = (refl, refl)
 
@@ -558,7 +585,7 @@ callTests-limit = (refl, refl)
 pub unsealed-is :
     (unsealed (shape 8 2 2 1) (replicate 144 0) ≡ true) × (unsealed (shape 8 2 2 1) (set (replicate 144 0) 23 1) ≡ false)
     × (unsealed (shape 8 2 2 1) (set (replicate 144 0) 80 1) ≡ false) × (unsealed (shape 8 2 2 1) (set (replicate 144 0) 24 1) ≡ true)
-    × (first (drop 4 (readTests (replicate 512 0 ++ (1 ∷ [])))) ≡ some 21) × (first (liveTests (begun (replicate 512 0 ++ (1 ∷ [])) [])) ≡ some 21)
+    × (first (drop 4 (readTests (replicate 512 0 ++ (1 ∷ [])))) ≡ some 21) × (first (liveTests (record { pool = replicate 512 0 ++ (1 ∷ []); staging = []; txn = fresh 0 })) ≡ some 21)
 unfolding opened
 unsealed-is = (refl, refl, refl, refl, refl, refl)
 
@@ -592,21 +619,18 @@ unfolding opened
 goodTargets-is = (refl, refl, refl)
 
 -- 2 entries are possible, one in the parity row is not. The limit of 127 entries: Staging's `impossible-count` and `possible-few`.
-abbrev holding : ℕ → Transaction
-holding n = record { count = n; phase = live }
-
 pub impossible-targets :
-    (impossible smallest (entryBytes (stores 4848 2)) (holding 2) ≡ false) × (impossible smallest (entryBytes (stores 4856 2)) (holding 2) ≡ true)
+    (impossible smallest (entryBytes (stores 4848 2)) 2 live ≡ false) × (impossible smallest (entryBytes (stores 4856 2)) 2 live ≡ true)
 unfolding opened
 impossible-targets = (refl, refl)
 
 -- A commit of one entry has 15 steps: place 14 is in its list, place 15 past it. Without entries there is no list.
 pub impossible-place :
     (commitLength 0 ≡ 0) × (commitLength 2 ≡ 21) × (commitLength 10 ≡ 69)
-    × (impossible smallest (entryBytes (stores 4608 1)) (record { count = 1; phase = committing 14 }) ≡ false)
-    × (impossible smallest (entryBytes (stores 4608 1)) (record { count = 1; phase = committing 15 }) ≡ true)
-    × (impossible smallest [] (record { count = 0; phase = committing 0 }) ≡ true)
-    × (impossible smallest [] (record { count = 0; phase = closed }) ≡ false)
+    × (impossible smallest (entryBytes (stores 4608 1)) 1 (committing 14) ≡ false)
+    × (impossible smallest (entryBytes (stores 4608 1)) 1 (committing 15) ≡ true)
+    × (impossible smallest [] 0 (committing 0) ≡ true)
+    × (impossible smallest [] 0 closed ≡ false)
 unfolding opened
 impossible-place = (refl, refl, refl, refl, refl, refl, refl)
 

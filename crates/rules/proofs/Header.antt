@@ -1,15 +1,17 @@
--- `same` is equality. Pools that agree in length and in both header pages open alike; a sound pool opens, and its shape is good.
+-- `same` is equality. Pools that agree in length and in both header pages open alike; a sound pool opens, and its shape is good. The id of a pool
+-- that opens is not 0.
 use Prim.Native.Nat.{ℕ, _+_, _%_, _≤_, _<_}
 use mathlib.Core.Path.{_≡_, refl, sym, ap, ap₂, _∙_}
-use mathlib.Core.Bool.{Bool, true, false}
+use mathlib.Core.Logic.{_≢_}
+use mathlib.Core.Bool.{Bool, true, false, not}
 use mathlib.Core.List.{List, [], _∷_}
 use native.Mathlib.Omega.{arith}
 use lib.Dec.{leb, eqb}
 use lib.ListN.{length, take, drop, getD, length-drop}
 use lib.Seq.{ext-getD, getD-take, getD-drop, length-take-le}
-use borrow.Author.Tests.{eqb-true, leb-true, le-ltb, eq-eqb}
+use borrow.Author.Tests.{eqb-false, eqb-true, leb-true, le-ltb, eq-eqb, not-true}
 use Rattle.rules.specs.Shape.{Shape, poolSize}
-use Rattle.rules.specs.Header.{differing, headerOk, headerShape, inRange, letters, openTests, pageAt, same, shapeIn, validHeader, within}
+use Rattle.rules.specs.Header.{differing, headerId, headerIn, headerOk, headerShape, idIn, inRange, letters, openTests, pageAt, same, shapeIn, validHeader, version, within}
 use Rattle.rules.specs.Sound.{Sound}
 use Rattle.rules.proofs.Bool.{and-split, split}
 use Rattle.rules.proofs.Test.{Passed, not-not}
@@ -59,6 +61,10 @@ module _ (p q : List ℕ) (h : SameHeaders p q) where
   unfolding shapeIn validHeader
   shape-same = rw (h .header, h .copy, shapeIn, validHeader)
 
+  pub id-same : idIn p ≡ idIn q
+  unfolding idIn validHeader
+  id-same = rw (h .header, h .copy, idIn, validHeader)
+
   pub tests-same : openTests p ≡ openTests q
   unfolding openTests differing shapeIn validHeader
   tests-same = rw (h .header, h .copy, h .length-is, openTests, differing, shapeIn, validHeader)
@@ -98,12 +104,29 @@ pub header-range : (h : List ℕ) → headerOk h ≡ true → inRange (headerSha
 unfolding headerOk
 header-range h ok = and-split (inRange (headerShape h)) _ (and-split (same (take 4 h) letters) _ ok .1) .0
 
--- where all tests are passed, the shape that counts is a valid header's
+-- where all tests are passed, the header that counts is valid
+passed-valid : (p : List ℕ) → Passed (openTests p) → headerOk (headerIn p) ≡ true
+unfolding openTests validHeader
+passed-valid p o =
+    split (headerOk (pageAt p 0)) (λ e. rw (e, e))
+    (λ e. rw e (not-not (headerOk (pageAt p 256)) (rw e at (o .1 .0))))
+
 pub passed-range : (p : List ℕ) → Passed (openTests p) → inRange (shapeIn p) ≡ true
-unfolding openTests shapeIn validHeader
-passed-range p o =
-    split (headerOk (pageAt p 0)) (λ e. rw e (header-range (pageAt p 0) e))
-    (λ e. rw e (header-range (pageAt p 256) (not-not (headerOk (pageAt p 256)) (rw e at (o .1 .0)))))
+unfolding shapeIn
+passed-range p o = header-range (headerIn p) (passed-valid p o)
+
+-- NO POOL THAT OPENS HAS ID 0
+header-id : (h : List ℕ) → headerOk h ≡ true → headerId h ≢ 0
+unfolding headerOk
+header-id h ok =
+    let a = and-split (same (take 4 h) letters) _ ok .1 in
+    let b = and-split (inRange (headerShape h)) _ a .1 in
+    let c = and-split (eqb (getD h 7 0) version) _ b .1 in
+    eqb-false (headerId h) 0 (not-true (eqb (headerId h) 0) (and-split (not (eqb (headerId h) 0)) _ c .0))
+
+pub id-not-0 : (p : List ℕ) → Passed (openTests p) → idIn p ≢ 0
+unfolding idIn
+id-not-0 p o = header-id (headerIn p) (passed-valid p o)
 
 pub passed-good : (p : List ℕ) → Passed (openTests p) → Good (shapeIn p)
 passed-good p o = range-good (shapeIn p) (unfold shapeIn headerShape in refl) (passed-range p o)

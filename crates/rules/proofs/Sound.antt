@@ -13,12 +13,13 @@ use borrow.Author.Tests.{eq-eqb, ltb-false, lt-leb}
 use Rattle.rules.specs.Words.{Bytes, word}
 use Rattle.rules.specs.Shape.{Shape, logA, logB, poolSize, row, zoneAt, zoneCells, zonesAt}
 use Rattle.rules.specs.Test.{first}
-use Rattle.rules.specs.Header.{headerOk, openTests, shapeIn, validHeader}
+use Rattle.rules.specs.Header.{headerOk, idIn, openTests, shapeIn, validHeader}
 use Rattle.rules.specs.Book.{Listed, find}
 use Rattle.rules.specs.Zones.{bodyOf, goodFrom, headAt, poolBook, runThere, zoneData}
 use Rattle.rules.specs.Seals.{readTests, unsealed}
+use Rattle.rules.specs.Staging.{fresh}
 use Rattle.rules.specs.Answer.{concludePool, taken}
-use Rattle.rules.specs.Calls.{begun, entriesIn}
+use Rattle.rules.specs.Calls.{begun, concludeStart, entriesIn, transactionStart}
 use Rattle.rules.specs.Parity.{Parity}
 use Rattle.rules.specs.Sound.{Sound, bookOf}
 use Rattle.rules.specs.Look.{concludeLook, look, lookTests, part, seen}
@@ -46,9 +47,16 @@ pub sound-reads : (p : List ℕ) → Sound p → Passed (readTests p)
 unfolding readTests
 sound-reads p s = passed-join (openTests p) _ (sound-opens p s) (rw (s .seals), tt)
 
+-- a transaction is begun on it
+pub begun-is : (p : List ℕ) → Sound p → transactionStart p ≡ record { answer = taken; txn = fresh (idIn p) }
+unfolding transactionStart concludeStart
+begun-is p s = rw (passed-first (readTests p) (sound-reads p s))
+
 pub begun-kept : (p staging : List ℕ) → Sound p → Kept (begun p staging) (bookOf p)
 unfolding begun entriesIn bookOf
-begun-kept p staging s = record { live-is = refl; few = omega arith; held = held-start (shapeIn p) p (sound-fits p s) (s .zones) }
+begun-kept p staging s =
+    rw (begun-is p s)
+    (record { id-is = refl; live-is = refl; few = omega arith; held = held-start (shapeIn p) p (sound-fits p s) (s .zones) })
 
 -- ---- sound again
 

@@ -20,12 +20,12 @@ use Rattle.rules.proofs.Sets.{drop-sets, sets-append, sets-comm, sets-s
 -- ---- up to 127 entries
 
 -- A count of 128 is impossible, whatever staging holds.
-pub impossible-count : (sh : Shape) (st : List ℕ) (ph : Phase) → impossible sh st (record { count = 128; phase = ph }) ≡ true
+pub impossible-count : (sh : Shape) (st : List ℕ) (ph : Phase) → impossible sh st 128 ph ≡ true
 unfolding impossible
 impossible-count sh st ph = refl
 
 -- A count of 127 is possible with good targets.
-pub possible-few : (sh : Shape) (st : List ℕ) → goodTargets sh (entriesAt st 0 127) ≡ true → impossible sh st (record { count = 127; phase = live }) ≡ false
+pub possible-few : (sh : Shape) (st : List ℕ) → goodTargets sh (entriesAt st 0 127) ≡ true → impossible sh st 127 live ≡ false
 unfolding impossible pastCommit
 possible-few sh st g = ap not g
 

@@ -11,7 +11,7 @@ use borrow.Author.Tests.{le-leb, lt-ltb, eq-eqb, ne-eqb, ltb-false}
 use Rattle.rules.specs.Words.{Bytes, digits, put, word}
 use Rattle.rules.specs.Shape.{Shape, entryLimit, poolSize, row, stagingSize, zoneAt, zonesAt}
 use Rattle.rules.specs.Test.{first}
-use Rattle.rules.specs.Header.{openTests, shapeIn}
+use Rattle.rules.specs.Header.{idIn, openTests, shapeIn}
 use Rattle.rules.specs.Book.{Listed}
 use Rattle.rules.specs.Staging.{Fresh, Store, Tidy, entriesAt, entryBytes, goodTarget, goodTargets, lay, live, noneAt}
 use Rattle.rules.specs.Answer.{After, Given, conclude, isRefused, refused}
@@ -132,6 +132,7 @@ module _ (s : Shape) (pool : List ℕ) (g : Good s) (fp : Fits s pool) (len : le
 
 -- what holds of an open transaction whose staged book is bk
 pub record Kept (g : Given) (bk : List Listed) : Type 0 where
+  pub id-is : g .txn .id ≡ idIn (g .pool)
   pub live-is : g .txn .phase ≡ live
   pub few : g .txn .count ≤ entryLimit
   pub held : Held (shapeIn (g .pool)) (g .pool) (entriesIn g) bk
@@ -143,7 +144,7 @@ module _ (g : Given) (bk : List Listed) (good : Good (shapeIn (g .pool))) (fp : 
   staged-kept es bk′ f l k =
       let e : entriesAt (sets (g .staging) 0 (entryBytes es)) 0 (length es) ≡ es =
       entries-stored es (g .staging) 0 refl (omega arith) (inside-small (shapeIn (g .pool)) (g .pool) good fp len es (k .tidy) (k .inside)) in
-      record { live-is = refl; few = f; held = rw e k }
+      record { id-is = h .id-is; live-is = refl; few = f; held = rw e k }
 
   -- ONE CALL, TAKEN OR REFUSED
   pub call-kept : (k : Call) → Typed k → Kept (call g k .left) (newBook k (call g k .answer) bk)

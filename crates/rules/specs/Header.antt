@@ -63,9 +63,16 @@ headerOk h =
 unfoldable pub validHeader : List ℕ → ℕ → Bool
 validHeader p a = headerOk (pageAt p a)
 
--- One valid copy is enough: the shape by which a pool is read is that of the first valid one.
+-- One valid copy is enough: the header by which a pool is read is the first valid one.
+abbrev pub headerIn : List ℕ → List ℕ
+headerIn p = cond (validHeader p 0) (pageAt p 0) (pageAt p pageSize)
+
+-- The pool's shape and its id.
 unfoldable pub shapeIn : List ℕ → Shape
-shapeIn p = headerShape (cond (validHeader p 0) (pageAt p 0) (pageAt p pageSize))
+shapeIn p = headerShape (headerIn p)
+
+unfoldable pub idIn : List ℕ → ℕ
+idIn p = headerId (headerIn p)
 
 -- Both valid and different.
 unfoldable pub differing : List ℕ → Bool
@@ -79,3 +86,7 @@ openTests p =
     ∷ when (differing p) 4
     ∷ when (not (eqb (length p) (poolSize (shapeIn p)))) 2
     ∷ []
+
+-- 11 a record's id is not the pool's.
+abbrev pub idTest : ℕ → List ℕ → Test
+idTest id p = when (not (eqb id (idIn p))) 11

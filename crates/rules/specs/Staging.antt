@@ -84,13 +84,23 @@ pub data Phase : Type 0 where
   committing : ℕ → Phase
   closed : Phase
 
+-- The id of the pool that it was begun on, the entries, and the phase.
 pub record Transaction : Type 0 where
+  pub id : ℕ
   pub count : ℕ
   pub phase : Phase
 
--- A fresh transaction: open and without entries.
-abbrev pub fresh : Transaction
-fresh = record { count = 0; phase = live }
+-- A fresh transaction on the pool with this id: open and without entries.
+abbrev pub fresh : ℕ → Transaction
+fresh id = record { id = id; count = 0; phase = live }
+
+-- A refused begin hands back a record that no call takes: no pool that opens has id 0.
+abbrev pub unusable : Transaction
+unusable = record { id = 0; count = 0; phase = closed }
+
+-- The record in another phase.
+abbrev pub withPhase : Transaction → Phase → Transaction
+withPhase t f = record { id = t .id; count = t .count; phase = f }
 
 unfoldable pub isLive : Phase → Bool
 isLive live = true
@@ -109,6 +119,5 @@ pastCommit n (committing k) = leb (commitLength n) k
 pastCommit n closed = false
 
 -- Refusal 10: count above 127, place past its list, a target outside data rows, unaligned or repeated.
-unfoldable pub impossible : Shape → List ℕ → Transaction → Bool
-impossible sh staging t =
-    ltb entryLimit (t .count) || (pastCommit (t .count) (t .phase) || not (goodTargets sh (entriesAt staging 0 (t .count))))
+unfoldable pub impossible : Shape → List ℕ → ℕ → Phase → Bool
+impossible sh staging n f = ltb entryLimit n || (pastCommit n f || not (goodTargets sh (entriesAt staging 0 n)))

@@ -13,7 +13,7 @@ use Rattle.rules.specs.Words.{ascii, digits, field, number, put, word}
 use Rattle.rules.specs.Check.{check, high, low, reduced}
 use Rattle.rules.specs.Shape.{Shape, poolSize, row, zoneAt, zoneCells}
 use Rattle.rules.specs.Test.{first}
-use Rattle.rules.specs.Header.{differing, headerBytes, headerFront, headerId, headerOk, headerShape, inRange, openTests, pageAt, same, shapeIn, validHeader, within}
+use Rattle.rules.specs.Header.{differing, headerBytes, headerFront, headerId, headerOk, headerShape, idIn, inRange, openTests, pageAt, same, shapeIn, validHeader, within}
 use Rattle.rules.specs.Runs.{cellsFor, checkRun, fits, freeHead, freeOk, headBytes, nextRun, objectBytes, objectOk, onward, readRun, runOf, walk, zoneWalk}
 use Rattle.rules.specs.Book.{book, strike}
 use Rattle.rules.specs.Search.{joined, runAt}
@@ -23,7 +23,7 @@ use Rattle.rules.specs.Seals.{readTests, unsealed}
 use Rattle.rules.specs.Staging.{Phase, Store, Transaction, commitLength, committing, impossible, isLive, lay, live, pastCommit, touch, touchWords}
 use Rattle.rules.specs.Answer.{conclude, isRefused, refused}
 use Rattle.rules.specs.Plan.{Call, joinedAt, plan, release, touchFree, touchJoined}
-use Rattle.rules.specs.Calls.{begun, call, callTests, calls, entriesIn, liveTests, recordTests, staged}
+use Rattle.rules.specs.Calls.{begun, call, callTests, calls, concludeStart, entriesIn, liveTests, recordTests, staged, transactionStart}
 use Rattle.rules.specs.NewBook.{newBook, newBooks, onTaken}
 use Rattle.powercut.specs.Log.{sealOf}
 use Rattle.powercut.specs.Steps.{commitSteps, logStores, redo}
@@ -36,7 +36,7 @@ use Rattle.powercut.specs.Advance.{Moment, RunOn, acts, between, numberI
 
 -- Each definition that the run goes through, opened at once.
 opened : Unit {0}
-unfolding number digits field word put reduced low high check poolSize zoneCells zoneAt row first same within inRange headerFront headerBytes pageAt headerShape headerId headerOk validHeader shapeIn differing openTests cellsFor freeOk objectOk runOf readRun fits checkRun nextRun onward walk zoneWalk headBytes freeHead objectBytes book strike joined runAt zoneData walkIn bookFrom poolBook bookOf isObject isDamaged runThere objectTests unsealed readTests touch touchWords commitLength pastCommit isLive impossible conclude isRefused touchFree joinedAt touchJoined plan entriesIn recordTests liveTests callTests staged call calls begun onTaken newBook newBooks sealOf commitSteps redo act keep isSeal commitList commitNext commitStart commitStep commitTests isCommitting nextPhase placeIn startAnswer startPhase stepAnswer madeAnswer made entries isStored commitMore commitOn between numberIn acts
+unfolding number digits field word put reduced low high check poolSize zoneCells zoneAt row first same within inRange headerFront headerBytes pageAt headerShape headerId headerOk validHeader shapeIn idIn differing openTests cellsFor freeOk objectOk runOf readRun fits checkRun nextRun onward walk zoneWalk headBytes freeHead objectBytes book strike joined runAt zoneData walkIn bookFrom poolBook bookOf isObject isDamaged runThere objectTests unsealed readTests touch touchWords commitLength pastCommit isLive impossible conclude isRefused touchFree joinedAt touchJoined plan entriesIn concludeStart transactionStart recordTests liveTests callTests staged call calls begun onTaken newBook newBooks sealOf commitSteps redo act keep isSeal commitList commitNext commitStart commitStep commitTests isCommitting nextPhase placeIn startAnswer startPhase stepAnswer madeAnswer made entries isStored commitMore commitOn between numberIn acts
 opened = tt
 
 abbrev sh : Shape
@@ -65,7 +65,7 @@ abbrev state : List Store → State
 state p = record { base = pool; pend = p; reached = false }
 
 abbrev txn : Phase → Transaction
-txn ph = record { count = 2; phase = ph }
+txn ph = record { id = 1; count = 2; phase = ph }
 
 -- The run begins with no store pending and no seal; its start makes no store.
 pub run-begins : Run pool staging ks (holding (txn live)) (state [])

@@ -12,7 +12,7 @@ use Rattle.rules.specs.Check.{check, high, low, reduced}
 use Rattle.rules.specs.Shape.{Shape, byteAt, off, poolSize, row, rowAt, zone, zoneCells}
 use Rattle.rules.specs.Parity.{parityWord, xorTo}
 use Rattle.rules.specs.Test.{first}
-use Rattle.rules.specs.Header.{differing, headerBytes, headerFront, headerId, headerOk, headerShape, inRange, openTests, pageAt, same, shapeIn, validHeader, within}
+use Rattle.rules.specs.Header.{differing, headerBytes, headerFront, headerId, headerOk, headerShape, idIn, inRange, openTests, pageAt, same, shapeIn, validHeader, within}
 use Rattle.rules.specs.Runs.{freeHead, headBytes}
 use Rattle.rules.specs.Format.{freshPool, freshZone, freshZones}
 use Rattle.rules.specs.Seals.{unsealed}
@@ -245,34 +245,34 @@ unfolding startPhase startAnswer
 starts = (refl, refl, refl, refl)
 
 -- So is a recovery without steps; another one holds what it does, no step made. Neither log valid and no seal zero is refusal 22.
-pub recovery-begins : (startRecovery pool (replay fromB 1) ≡ record { answer = started; pool = pool; recovery = record { work = replay fromB 1; phase = recovering 0 } })
-    × (startRecovery pool clear ≡ record { answer = started; pool = pool; recovery = record { work = clear; phase = recovering 0 } })
-    × (startRecovery pool nothing ≡ record { answer = done 0; pool = pool; recovery = record { work = nothing; phase = finished } })
-    × (startRecovery pool neither ≡ record { answer = refused 22; pool = pool; recovery = record { work = neither; phase = finished } })
+pub recovery-begins : (startRecovery pool (replay fromB 1) ≡ record { answer = started; pool = pool; recovery = record { id = idIn pool; work = replay fromB 1; phase = recovering 0 } })
+    × (startRecovery pool clear ≡ record { answer = started; pool = pool; recovery = record { id = idIn pool; work = clear; phase = recovering 0 } })
+    × (startRecovery pool nothing ≡ record { answer = done 0; pool = pool; recovery = record { id = idIn pool; work = nothing; phase = finished } })
+    × (startRecovery pool neither ≡ record { answer = refused 22; pool = pool; recovery = record { id = 0; work = neither; phase = finished } })
 unfolding startRecovery
 recovery-begins = (refl, refl, refl, refl)
 
 -- ---- Refusal 10 of a recovery record.
 
 abbrev replayed : ℕ → ℕ → Recovery
-replayed n k = record { work = replay fromA n; phase = recovering k }
+replayed n k = record { id = 1; work = replay fromA n; phase = recovering k }
 
 -- A count above 127, and a place past the list of 7.
-pub record-impossible : (impossibleRecovery tiny pool (record { work = replay fromA 128; phase = finished }) ≡ true)
-    × (impossibleRecovery tiny pool (record { work = replay fromA 127; phase = finished }) ≡ false)
-    × (impossibleRecovery tiny pool (replayed 1 6) ≡ false) × (impossibleRecovery tiny pool (replayed 1 7) ≡ true)
-    × (impossibleRecovery tiny pool (record { work = clear; phase = recovering 2 }) ≡ false)
-    × (impossibleRecovery tiny pool (record { work = clear; phase = recovering 3 }) ≡ true)
+pub record-impossible : (impossibleRecovery tiny pool (replay fromA 128) finished ≡ true)
+    × (impossibleRecovery tiny pool (replay fromA 127) finished ≡ false)
+    × (impossibleRecovery tiny pool (replay fromA 1) (recovering 6) ≡ false) × (impossibleRecovery tiny pool (replay fromA 1) (recovering 7) ≡ true)
+    × (impossibleRecovery tiny pool clear (recovering 2) ≡ false)
+    × (impossibleRecovery tiny pool clear (recovering 3) ≡ true)
 unfolding impossibleRecovery countAbove isRecovering doneSteps recoverySteps redo logLost digits field word put number
 record-impossible = (refl, refl, refl, refl, refl, refl)
 
 -- Its log is judged in parts 3 and 4 with their barriers (places 0 to 3), with its count, and not in part 5.
-pub log-judged : (impossibleRecovery tiny (logged one seal1 seal1) (replayed 1 0) ≡ false)
-    × (impossibleRecovery tiny (logged one 0 seal1) (replayed 1 0) ≡ true)
-    × (impossibleRecovery tiny (logged one 0 seal1) (replayed 1 3) ≡ true)
-    × (impossibleRecovery tiny (logged one 0 seal1) (replayed 1 4) ≡ false)
-    × (impossibleRecovery tiny (logged one 0 seal1) (record { work = replay fromB 1; phase = recovering 3 }) ≡ false)
-    × (impossibleRecovery tiny (logged two seal2 seal2) (replayed 1 0) ≡ true)
+pub log-judged : (impossibleRecovery tiny (logged one seal1 seal1) (replay fromA 1) (recovering 0) ≡ false)
+    × (impossibleRecovery tiny (logged one 0 seal1) (replay fromA 1) (recovering 0) ≡ true)
+    × (impossibleRecovery tiny (logged one 0 seal1) (replay fromA 1) (recovering 3) ≡ true)
+    × (impossibleRecovery tiny (logged one 0 seal1) (replay fromA 1) (recovering 4) ≡ false)
+    × (impossibleRecovery tiny (logged one 0 seal1) (replay fromB 1) (recovering 3) ≡ false)
+    × (impossibleRecovery tiny (logged two seal2 seal2) (replay fromA 1) (recovering 0) ≡ true)
 unfolding impossibleRecovery countAbove isRecovering doneSteps recoverySteps redo logLost valid logEntries markIn countIn checkIn check low high reduced digits field word put number poolSize row
 log-judged = (refl, refl, refl, refl, refl, refl)
 
@@ -289,11 +289,11 @@ seal = 0xA51C000101D60022
 
 -- One staged entry.
 abbrev given : List ℕ → ℕ → Phase → Given
-given p n f = record { pool = p; staging = entryBytes (at 4616 7 ∷ []) ++ replicate 2016 0; txn = record { count = n; phase = f } }
+given p n f = record { pool = p; staging = entryBytes (at 4616 7 ∷ []) ++ replicate 2016 0; txn = record { id = 1; count = n; phase = f } }
 
 pub commit-starts : (commitStart (given fresh-pool 1 live) .answer ≡ started) × (commitStart (given fresh-pool 1 closed) .answer ≡ refused 29)
     × (commitStart (given (sealed seal 0) 1 live) .answer ≡ refused 21)
-unfolding commitStart conclude startAnswer recordTests liveTests isLive unsealed impossible pastCommit commitLength first number digits field word put check low high reduced poolSize row zoneCells same within inRange headerFront headerBytes pageAt headerShape headerId headerOk validHeader shapeIn differing openTests headBytes freeHead freshZone freshZones freshPool
+unfolding commitStart conclude startAnswer recordTests liveTests isLive unsealed impossible pastCommit commitLength first number digits field word put check low high reduced poolSize row zoneCells same within inRange headerFront headerBytes pageAt headerShape headerId headerOk validHeader shapeIn idIn differing openTests headBytes freeHead freshZone freshZones freshPool
 commit-starts = (refl, refl, refl)
 
 -- 10 past the list, 29 not committing, 21 at the first step only.
@@ -301,20 +301,22 @@ pub commit-steps : (commitStep (given fresh-pool 1 (committing 0)) .answer ≡ s
     × (commitStep (given fresh-pool 1 (committing 15)) .answer ≡ refused 10) × (commitStep (given fresh-pool 1 live) .answer ≡ refused 29)
     × (commitStep (given (sealed seal 0) 1 (committing 0)) .answer ≡ refused 21)
     × (commitStep (given (sealed seal 0) 1 (committing 1)) .answer ≡ stored 2)
-unfolding commitStep commitTests commitList commitNext isCommitting placeIn stepAnswer madeAnswer commitSteps redo entriesIn conclude recordTests unsealed impossible pastCommit commitLength first number digits field word put check low high reduced poolSize row zoneCells same within inRange headerFront headerBytes pageAt headerShape headerId headerOk validHeader shapeIn differing openTests headBytes freeHead freshZone freshZones freshPool
+unfolding commitStep commitTests commitList commitNext isCommitting placeIn stepAnswer madeAnswer commitSteps redo entriesIn conclude recordTests unsealed impossible pastCommit commitLength first number digits field word put check low high reduced poolSize row zoneCells same within inRange headerFront headerBytes pageAt headerShape headerId headerOk validHeader shapeIn idIn differing openTests headBytes freeHead freshZone freshZones freshPool
 commit-steps = (refl, refl, refl, refl, refl)
 
--- 22 where neither log is valid and no seal is zero.
-pub recovery-starts : (recoveryStart (sealed 0 seal) .answer ≡ started) × (recoveryStart (sealed 5 5) .answer ≡ refused 22)
-unfolding recoveryStart concludeRecovery startRecovery remedy valid logEntries markIn countIn checkIn first number digits field word put check low high reduced poolSize row zoneCells same within inRange headerFront headerBytes pageAt headerShape headerId headerOk validHeader shapeIn differing openTests headBytes freeHead freshZone freshZones freshPool
-recovery-starts = (refl, refl)
+-- With the pool's id. 22 where neither log is valid and no seal is zero.
+pub recovery-starts : (recoveryStart (sealed 0 seal) .answer ≡ started) × (recoveryStart (sealed 0 seal) .recovery .id ≡ 1)
+    × (recoveryStart (sealed 5 5) .answer ≡ refused 22) × (recoveryStart (sealed 5 5) .recovery .id ≡ 0)
+unfolding recoveryStart concludeRecovery startRecovery remedy valid logEntries markIn countIn checkIn first number digits field word put check low high reduced poolSize row zoneCells same within inRange headerFront headerBytes pageAt headerShape headerId headerOk validHeader shapeIn idIn differing openTests headBytes freeHead freshZone freshZones freshPool
+recovery-starts = (refl, refl, refl, refl)
 
--- 10 its log lost, with the record as given; 29 not recovering.
+-- 10 its log lost, with the record as given; 11 of another pool; 29 not recovering.
 pub recovery-steps : (recoveryStep (sealed seal 0) (replayed 1 0) .answer ≡ stored 1) × (recoveryStep fresh-pool (replayed 1 0) .answer ≡ refused 10)
     × (recoveryStep fresh-pool (replayed 1 0) .recovery ≡ replayed 1 0)
-    × (recoveryStep fresh-pool (record { work = nothing; phase = finished }) .answer ≡ refused 29)
-unfolding recoveryStep concludeRecovery recoveryTests recoveryList recoveryNext nextProgress isRecovering doneSteps countAbove impossibleRecovery logLost recoverySteps redo stepAnswer madeAnswer valid logEntries markIn countIn checkIn first number digits field word put check low high reduced poolSize row zoneCells same within inRange headerFront headerBytes pageAt headerShape headerId headerOk validHeader shapeIn differing openTests headBytes freeHead freshZone freshZones freshPool
-recovery-steps = (refl, refl, refl, refl)
+    × (recoveryStep fresh-pool (record { id = 2; work = nothing; phase = finished }) .answer ≡ refused 11)
+    × (recoveryStep fresh-pool (record { id = 1; work = nothing; phase = finished }) .answer ≡ refused 29)
+unfolding recoveryStep concludeRecovery recoveryTests recoveryList recoveryNext nextProgress isRecovering doneSteps countAbove impossibleRecovery logLost recoverySteps redo stepAnswer madeAnswer valid logEntries markIn countIn checkIn first number digits field word put check low high reduced poolSize row zoneCells same within inRange headerFront headerBytes pageAt headerShape headerId headerOk validHeader shapeIn idIn differing openTests headBytes freeHead freshZone freshZones freshPool
+recovery-steps = (refl, refl, refl, refl, refl)
 
 -- ---- Up to the next barrier.
 
@@ -335,13 +337,13 @@ pub commit-calls : (commitOn (given fresh-pool 1 (committing 0)) .answer ≡ pas
     × (commitOn (given (sealed seal 0) 1 (committing 0)) ≡ record { answer = refused 21; left = given (sealed seal 0) 1 (committing 0) })
     × (commitOn (given (sealed seal seal) 1 (committing 12)) ≡ record { answer = done 15; left = given (sealed 0 0) 1 closed })
     × (commitMade (given (sealed seal seal) 1 (committing 12)) 12 14 ≡ record { answer = done 15; left = given (sealed 0 0) 1 closed })
-unfolding commitMade between stepsMade commitOn commitMore isStored commitStep nextPhase commitTests commitList commitNext isCommitting placeIn stepAnswer madeAnswer commitSteps redo entriesIn conclude recordTests unsealed impossible pastCommit commitLength first number digits field word put check low high reduced parityWord xorTo byteAt off zone rowAt poolSize row zoneCells same within inRange headerFront headerBytes pageAt headerShape headerId headerOk validHeader shapeIn differing openTests headBytes freeHead freshZone freshZones freshPool
+unfolding commitMade between stepsMade commitOn commitMore isStored commitStep nextPhase commitTests commitList commitNext isCommitting placeIn stepAnswer madeAnswer commitSteps redo entriesIn conclude recordTests unsealed impossible pastCommit commitLength first number digits field word put check low high reduced parityWord xorTo byteAt off zone rowAt poolSize row zoneCells same within inRange headerFront headerBytes pageAt headerShape headerId headerOk validHeader shapeIn idIn differing openTests headBytes freeHead freshZone freshZones freshPool
 commit-calls = (refl, refl, refl, refl, refl, refl, refl)
 
 -- Three calls make the 7 steps of a replay of one entry, one the 3 of clearing; and one that is refused.
 pub recovery-calls : (recoveryOn (sealed seal 0) (replayed 1 0) .answer ≡ passed 2) × (recoveryOn (sealed seal 0) (replayed 1 2) .answer ≡ passed 4)
-    × (recoveryOn (sealed seal seal) (replayed 1 4) ≡ record { answer = done 7; pool = sealed 0 0; recovery = record { work = replay fromA 1; phase = finished } })
-    × (recoveryMade (sealed seal seal) (replayed 1 4) 4 6 ≡ record { answer = done 7; pool = sealed 0 0; recovery = record { work = replay fromA 1; phase = finished } })
-    × (recoveryOn (sealed 0 seal) (record { work = clear; phase = recovering 0 }) .answer ≡ done 3) × (recoveryOn fresh-pool (replayed 1 0) .answer ≡ refused 10)
-unfolding recoveryMade between stepsMade recoveryOn recoveryMore isStored recoveryStep concludeRecovery recoveryTests recoveryList recoveryNext nextProgress isRecovering doneSteps countAbove impossibleRecovery logLost recoverySteps redo stepAnswer madeAnswer valid logEntries markIn countIn checkIn first number digits field word put check low high reduced parityWord xorTo byteAt off zone rowAt poolSize row zoneCells same within inRange headerFront headerBytes pageAt headerShape headerId headerOk validHeader shapeIn differing openTests headBytes freeHead freshZone freshZones freshPool
+    × (recoveryOn (sealed seal seal) (replayed 1 4) ≡ record { answer = done 7; pool = sealed 0 0; recovery = record { id = 1; work = replay fromA 1; phase = finished } })
+    × (recoveryMade (sealed seal seal) (replayed 1 4) 4 6 ≡ record { answer = done 7; pool = sealed 0 0; recovery = record { id = 1; work = replay fromA 1; phase = finished } })
+    × (recoveryOn (sealed 0 seal) (record { id = 1; work = clear; phase = recovering 0 }) .answer ≡ done 3) × (recoveryOn fresh-pool (replayed 1 0) .answer ≡ refused 10)
+unfolding recoveryMade between stepsMade recoveryOn recoveryMore isStored recoveryStep concludeRecovery recoveryTests recoveryList recoveryNext nextProgress isRecovering doneSteps countAbove impossibleRecovery logLost recoverySteps redo stepAnswer madeAnswer valid logEntries markIn countIn checkIn first number digits field word put check low high reduced parityWord xorTo byteAt off zone rowAt poolSize row zoneCells same within inRange headerFront headerBytes pageAt headerShape headerId headerOk validHeader shapeIn idIn differing openTests headBytes freeHead freshZone freshZones freshPool
 recovery-calls = (refl, refl, refl, refl, refl, refl)

@@ -8,18 +8,18 @@ use mathlib.Core.Option.{none}
 use mathlib.Core.List.{List}
 use native.Mathlib.Nat.{eq-or-lt-of-le}
 use native.Mathlib.Omega.{arith}
-use lib.Dec.{ltb}
+use lib.Dec.{eqb, ltb}
 use lib.ListN.{length, getD}
-use borrow.Author.Tests.{leb-false, lt-leb, ltb-false, ne-eqb}
+use borrow.Author.Tests.{eq-eqb, eqb-true, leb-false, lt-leb, ltb-false, ne-eqb}
 use Rattle.rules.specs.Shape.{Shape, entryLimit, stagingSize}
 use Rattle.rules.specs.Test.{first}
-use Rattle.rules.specs.Header.{openTests, shapeIn}
-use Rattle.rules.specs.Staging.{Phase, closed, commitLength, committing, entriesAt, goodTargets, impossible, live, pastCommit}
+use Rattle.rules.specs.Header.{idIn, openTests, shapeIn}
+use Rattle.rules.specs.Staging.{Phase, closed, commitLength, committing, entriesAt, goodTargets, impossible, live, pastCommit, withPhase}
 use Rattle.rules.specs.Answer.{After, Answer, Given, conclude, isRefused, stored}
 use Rattle.rules.specs.Calls.{entriesIn, recordTests}
 use Rattle.rules.proofs.Bool.{or-false, split}
 use Rattle.rules.proofs.Test.{Passed, first-passed, not-not, passed-first, passed-join, passed-left, passed-right}
-use Rattle.rules.proofs.Header.{SameHeaders, passed-good, shape-same, tests-same}
+use Rattle.rules.proofs.Header.{SameHeaders, id-same, passed-good, shape-same, tests-same}
 use Rattle.rules.proofs.Transaction.{entries-count}
 use Rattle.powercut.specs.Steps.{Step, barrier, commitSteps, stepPool, stepsMade}
 use Rattle.powercut.specs.Commit.{commitList, commitMore, commitNext, commitOn, commitStep, commitTests, isCommitting, isStored, nextPhase, placeIn, stepAnswer}
@@ -53,6 +53,7 @@ record Committing (g : Given) (k : ℕ) : Type 0 where
   few : g .txn .count ≤ entryLimit
   inside : k < commitLength (g .txn .count)
   targets : goodTargets (shapeIn (g .pool)) (entriesIn g) ≡ true
+  id : g .txn .id ≡ idIn (g .pool)
 
 pub accepted-place : (g : Given) → Accepted (commitStep g .answer) → (k : ℕ) × (g .txn .phase ≡ committing k)
 unfolding commitTests
@@ -77,6 +78,7 @@ accepted-committing g k e f =
       few = ltb-false entryLimit (g .txn .count) (a .0);
       inside = leb-false (commitLength (g .txn .count)) k (unfold pastCommit in (rw e at (b .0)));
       targets = not-not (goodTargets (shapeIn (g .pool)) (entriesAt (g .staging) 0 (g .txn .count))) (b .1);
+      id = eqb-true (g .txn .id) (idIn (g .pool)) (not-not (eqb (g .txn .id) (idIn (g .pool))) (q .1 .1 .0));
     }
 
 -- ---- a step
@@ -89,11 +91,11 @@ stepAt g k = getD (commitList g) k barrier
 
 -- after a call on g: the answer, the pool and the phase
 abbrev after : Given → Answer → List ℕ → Phase → After
-after g a p f = record { answer = a; left = record { pool = p; staging = g .staging; txn = record { count = g .txn .count; phase = f } } }
+after g a p f = record { answer = a; left = record { pool = p; staging = g .staging; txn = withPhase (g .txn) f } }
 
 -- what the step after step k + 1 is given
 abbrev next : Given → ℕ → Given
-next g k = record { pool = stepPool (sh g) (stepAt g k) (g .pool); staging = g .staging; txn = record { count = g .txn .count; phase = committing (suc k) } }
+next g k = record { pool = stepPool (sh g) (stepAt g k) (g .pool); staging = g .staging; txn = withPhase (g .txn) (committing (suc k)) }
 
 module _ (g : Given) (k : ℕ) (c : Committing g k) where
   abbrev n : ℕ
@@ -155,6 +157,7 @@ module _ (g : Given) (k : ℕ) (c : Committing g k) where
     few = c .few;
     inside = let a = list-is in omega arith;
     targets = ap (λ (s : Shape). goodTargets s (entriesIn g)) next-shape ∙ c .targets;
+    id = c .id ∙ sym (id-same (next g k .pool) (g .pool) next-headers);
   }
 
   module _ (o : first (commitTests g) ≡ none) where
@@ -197,9 +200,9 @@ later-passes : (g : Given) (k : ℕ) → Committing g (suc k) → first (commitT
 unfolding commitTests recordTests entriesIn isCommitting placeIn pastCommit
 later-passes g k c =
     let past : pastCommit (g .txn .count) (g .txn .phase) ≡ false = rw (c .phase) (lt-leb (commitLength (g .txn .count)) (suc k) (c .inside)) in
-    let possible = not-impossible (sh g) (sh g) (entriesIn g) (g .staging) (g .txn) refl refl (c .few) past (c .targets) in
+    let possible = not-impossible (sh g) (sh g) (entriesIn g) (g .staging) (g .txn .count) (g .txn .phase) refl refl (c .few) past (c .targets) in
     passed-first (commitTests g)
-    (passed-join (recordTests g) _ (passed-join (openTests (g .pool)) _ (c .opens) (c .room, (possible, tt))) (rw (c .phase), (rw (c .phase, ne-eqb (suc k) 0 (λ e. omega arith)), tt)))
+    (passed-join (recordTests g) _ (passed-join (openTests (g .pool)) _ (c .opens) (c .room, (possible, (rw (eq-eqb (g .txn .id) (idIn (g .pool)) (c .id)), tt)))) (rw (c .phase), (rw (c .phase, ne-eqb (suc k) 0 (λ e. omega arith)), tt)))
 
 all-made : (i k : ℕ) (g : Given) (c : Committing g k) → first (commitTests g) ≡ none → i + suc k ≡ length (commitList g) → commitMore i (commitStep g) ≡ commitMade g k (e g k c)
 all-made zero k g c o l = last-made g k c o 0 (let a = low g k c in let b = high g k c in omega arith)

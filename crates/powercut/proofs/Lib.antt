@@ -23,3 +23,4 @@ pub mod CommitOn
 pub mod RunOn
 pub mod Committed
 pub mod Requirements
+pub mod OwnPool

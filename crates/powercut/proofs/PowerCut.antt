@@ -13,18 +13,18 @@ use borrow.Author.Tests.{eq-eqb, eqb-true, ne-eqb, ltb-true, lt-ltb, le-ltb, lt-
 use Rattle.rules.specs.Words.{Bytes, word}
 use Rattle.rules.specs.Shape.{Shape, entryLimit, stagingSize}
 use Rattle.rules.specs.Test.{first}
-use Rattle.rules.specs.Header.{openTests, shapeIn}
+use Rattle.rules.specs.Header.{idIn, openTests, shapeIn}
 use Rattle.rules.specs.Zones.{goodFrom, poolBook}
 use Rattle.rules.specs.Seals.{unsealed}
 use Rattle.rules.specs.Staging.{Phase, Store, Transaction, closed, commitLength, committing, entriesAt, goodTargets, impossible, isLive, live, pastCommit}
 use Rattle.rules.specs.Answer.{Given, conclude, isRefused}
 use Rattle.rules.specs.Plan.{Call}
-use Rattle.rules.specs.Calls.{entriesIn, liveTests, recordTests, begun}
+use Rattle.rules.specs.Calls.{entriesIn, liveTests, recordTests, begun, transactionStart}
 use Rattle.rules.specs.Sound.{Sound, bookOf}
 use Rattle.rules.proofs.Test.{Passed, passed-first, passed-join}
 use Rattle.rules.proofs.Stores.{bytes-lay, length-lay}
 use Rattle.rules.proofs.StagedBook.{held-end}
-use Rattle.rules.proofs.Sound.{repair-restores, sound-again, sound-fits}
+use Rattle.rules.proofs.Sound.{begun-is, repair-restores, sound-again, sound-fits}
 use Rattle.powercut.specs.Log.{Log, countIn, logAt, valid}
 use Rattle.powercut.specs.Steps.{Remedy, Step, barrier, clear, neither, nothing, parity, recoverySteps, remedy, replay, stepPool, stepsMade, store}
 use Rattle.powercut.specs.Power.{State, act, view}
@@ -35,7 +35,7 @@ use Rattle.powercut.specs.Claim.{End, EndsIn, Over, PowerCut, StepTaken,
 use Rattle.powercut.proofs.StepRun.{StepRun, Ended, Position, atCommit, atRecovery}
 use Rattle.powercut.proofs.StepCount.{replay-count}
 use Rattle.powercut.proofs.StepPool.{uncut-view, view-act}
-use Rattle.powercut.proofs.RunMatches.{CommitMatches, Input, RecoveryMatches, again-left, claim, count-is, done-is, entries-met, few, front-kept, held, left-staging, list-met, live-is, opens, place-is, clean, commit-some, run-matches, same-head, shape-is, some-step-run, start-left, start-none, step-left, steps-length, targets}
+use Rattle.powercut.proofs.RunMatches.{CommitMatches, Input, RecoveryMatches, again-left, claim, count-is, done-is, entries-met, few, front-kept, held, id-is, left-staging, list-met, live-is, opens, place-is, clean, commit-some, run-matches, same-head, shape-is, some-step-run, start-left, start-none, step-left, steps-length, targets}
 use Rattle.rules.proofs.Bool.{split}
 use Rattle.rules.proofs.Transaction.{calls-short}
 
@@ -85,10 +85,10 @@ accepted-again p r o =
     let e = passed-first (recoveryTests p r) o in
     (rw e (answer-not-refused (doneSteps (r .phase)) (length (recoveryList p r)) (recoveryNext p r)), rw e)
 
-pub not-impossible : (sh x : Shape) (es : List Store) (st : List ℕ) (t : Transaction) → x ≡ sh → entriesAt st 0 (t .count) ≡ es → t .count ≤ entryLimit → pastCommit (t .count) (t .phase) ≡ false
-    → goodTargets sh es ≡ true → impossible x st t ≡ false
+pub not-impossible : (sh x : Shape) (es : List Store) (st : List ℕ) (n : ℕ) (f : Phase) → x ≡ sh → entriesAt st 0 n ≡ es → n ≤ entryLimit → pastCommit n f ≡ false → goodTargets sh es ≡ true
+    → impossible x st n f ≡ false
 unfolding impossible
-not-impossible sh x es st t q e k p g = rw (le-ltb entryLimit (t .count) k, p) (ap₂ (λ (y : Shape) (l : List Store). not (goodTargets y l)) q e ∙ ap not g)
+not-impossible sh x es st n f q e k p g = rw (le-ltb entryLimit n k, p) (ap₂ (λ (y : Shape) (l : List Store). not (goodTargets y l)) q e ∙ ap not g)
 
 no-steps : (sh : Shape) (p : List ℕ) (k : ℕ) → k < length (recoverySteps sh p nothing) → ⊥
 unfolding recoverySteps
@@ -108,10 +108,10 @@ unfolding countAbove
 count-small n l h = le-ltb entryLimit n h
 
 pub again-passed : (p : List ℕ) (r : Recovery) (k : ℕ) → Passed (openTests p) → r .phase ≡ recovering k → countAbove (r .work) ≡ false → k < length (recoveryList p r)
-    → logLost (shapeIn p) p (r .work) k ≡ false → Passed (recoveryTests p r)
+    → logLost (shapeIn p) p (r .work) k ≡ false → r .id ≡ idIn p → Passed (recoveryTests p r)
 unfolding recoveryTests impossibleRecovery isRecovering doneSteps recoveryList
-again-passed p r k o e a i d =
-    passed-join (openTests p) _ o (rw (a, e, lt-ltb k (length (recoverySteps (shapeIn p) p (r .work))) i, d), (rw e, tt))
+again-passed p r k o e a i d b =
+    passed-join (openTests p) _ o (rw (a, e, lt-ltb k (length (recoverySteps (shapeIn p) p (r .work))) i, d), (rw (eq-eqb (r .id) (idIn p) b), (rw e, tt)))
 
 -- the phase after a step
 pub progress-end : (k n : ℕ) → eqb (suc k) n ≡ true → nextProgress k n ≡ finished
@@ -195,6 +195,10 @@ module _ (inp : Input) where
         parity = e .clean .right;
       }
 
+  begins : Accepted (transactionStart pool .answer)
+  unfolding isRefused
+  begins = rw (begun-is pool sound)
+
   uncut : (t : Transaction) (s : State) → Run pool staging ks (holding t) s → t .phase ≡ closed → End pool staging ks s true
   uncut t s r e =
       let c : CommitMatches inp closed s = subst (λ (f : Phase). CommitMatches inp f s) e (run-matches inp r .1) in
@@ -202,7 +206,7 @@ module _ (inp : Input) where
 
   recovered : (r : Recovery) (s : State) → Run pool staging ks (resuming r) s → r .phase ≡ finished → End pool staging ks s (s .reached)
   recovered r s u e =
-      let c : RecoveryMatches inp (r .work) finished s = subst (λ (f : Progress). RecoveryMatches inp (r .work) f s) e (run-matches inp u) in
+      let c : RecoveryMatches inp (r .work) finished s = subst (λ (f : Progress). RecoveryMatches inp (r .work) f s) e (run-matches inp u .0) in
       ended-end s (s .reached) c (claim inp .recovered s (r .work) _ c refl)
 
   -- every call is refused with too little staging memory
@@ -213,13 +217,13 @@ module _ (inp : Input) where
   -- ---- no refusal
 
   record-passed : (t : Transaction) (s : State) {f : Position} → StepRun sh es pool f s → t .count ≡ length es → stagingSize ≤ length (made pool staging ks .left .staging) → pastCommit (t .count) (t .phase) ≡ false
-      → Passed (recordTests (met s t))
+      → t .id ≡ idIn pool → Passed (recordTests (met s t))
   unfolding recordTests
-  record-passed t s c n l p =
+  record-passed t s c n l p i =
       let e : entriesAt (made pool staging ks .left .staging) 0 (t .count) ≡ es = unfold entriesIn in (entries-met inp s t n) in
       let k : t .count ≤ entryLimit = (let a = few inp in omega arith) in
       passed-join (openTests (view s)) _ (opens inp c)
-      (le-ltb (length (made pool staging ks .left .staging)) stagingSize l, (not-impossible sh (shapeIn (view s)) es (made pool staging ks .left .staging) t (shape-is inp c) e k p (targets inp), tt))
+      (le-ltb (length (made pool staging ks .left .staging)) stagingSize l, (not-impossible sh (shapeIn (view s)) es (made pool staging ks .left .staging) (t .count) (t .phase) (shape-is inp c) e k p (targets inp), (rw (eq-eqb (t .id) (idIn (view s)) (i ∙ sym (id-is inp c))), tt)))
 
   sealed-not : (s : State) (f : Position) → StepRun sh es pool f s → view s ≡ pool → unsealed (shapeIn (view s)) (view s) ≡ true
   sealed-not s f c e = ap (λ (p : List ℕ). unsealed (shapeIn p) p) e ∙ sound .seals
@@ -231,7 +235,7 @@ module _ (inp : Input) where
       let i : s ≡ record { base = pool; pend = []; reached = false } = subst (λ (f : Phase). CommitMatches inp f s) e (h .1) in
       let c = some-step-run inp (t .phase) s (h .1) .1 in
       accepted-start (met s t) (passed-join (recordTests (met s t)) (liveTests (met s t))
-      (record-passed t s c (h .0) (let a = left-staging inp in omega arith) (rw e))
+      (record-passed t s c (h .0) (let a = left-staging inp in omega arith) (rw e) (h .2))
       (rw e, (rw (sealed-not s _ c (ap view i)), tt)))
 
   steps : (t : Transaction) (s : State) (k : ℕ) → Run pool staging ks (holding t) s → t .phase ≡ committing k
@@ -242,7 +246,7 @@ module _ (inp : Input) where
       let m = list-met inp s t (c .2) (h .0) in
       let n = steps-length inp in
       let past : pastCommit (t .count) (t .phase) ≡ false = past-not (t .count) (t .phase) k e (subst (λ (j : ℕ). k < j) (n ∙ ap commitLength (sym (h .0))) (c .0)) in
-      let a = accepted-step (met s t) (tests-passed c (record-passed t s (c .2) (h .0) (c .1) past)) in
+      let a = accepted-step (met s t) (tests-passed c (record-passed t s (c .2) (h .0) (c .1) past (h .2))) in
       record {
         accepted = a .0;
         leaves = a .1 ∙ ap (λ (x : Shape). stepPool x (commitNext (met s t)) (view s)) (shape-is inp (c .2)) ∙ sym (view-act sh es (commitNext (met s t)) s);
@@ -298,14 +302,14 @@ module _ (inp : Input) where
   resumes : (r : Recovery) (s : State) (k : ℕ) → Run pool staging ks (resuming r) s → r .phase ≡ recovering k
       → StepTaken pool staging ks (recoveryStep (view s) r .answer) (recoveryStep (view s) r .pool) s (recoveryNext (view s) r) k (recoveryList (view s) r) (2 * length es + 5)
   resumes r s k u e =
-      let c : RecoveryMatches inp (r .work) (recovering k) s = subst (λ (f : Progress). RecoveryMatches inp (r .work) f s) e (run-matches inp u) in
+      let c : RecoveryMatches inp (r .work) (recovering k) s = subst (λ (f : Progress). RecoveryMatches inp (r .work) f s) e (run-matches inp u .0) in
       let x = shape-is inp (c .1) in
       let m : recoveryList (view s) r ≡ recoverySteps sh (view s) (r .work) = list-of x in
       let w = running-replay (r .work) s k c in
       let n : length (recoveryList (view s) r) ≡ 2 * length es + 5 = ap length m ∙ ap (λ (q : Remedy). length (recoverySteps sh (view s) q)) (w .1) ∙ replay-count sh (view s) (w .0) (length es) in
       let b = claim inp .log-kept s (w .0) (length es) k
       (subst (λ (q : Remedy). StepRun sh es pool (atRecovery q k) s) (w .1) (c .1)) in
-      let a = accepted-again (view s) r (tests-passed (opens inp (c .1)) x (w .0) (w .1) (rw m (c .0)) b) in
+      let a = accepted-again (view s) r (tests-passed (opens inp (c .1)) x (w .0) (w .1) (rw m (c .0)) b (run-matches inp u .1 ∙ sym (id-is inp (c .1)))) in
       record {
         accepted = a .0;
         leaves = a .1 ∙ ap (λ (y : Shape). stepPool y (recoveryNext (view s) r) (view s)) x ∙ sym (view-act sh es (recoveryNext (view s) r) s);
@@ -324,9 +328,9 @@ module _ (inp : Input) where
 
       tests-passed : Passed (openTests (view s)) → shapeIn (view s) ≡ sh → (l : Log) → r .work ≡ replay l (length es) → k < length (recoveryList (view s) r)
           → (k < 2 * length es + 2 → (valid sh (view s) (logAt sh l) ≡ true) × (countIn (word (view s) (logAt sh l)) ≡ length es))
-          → Passed (recoveryTests (view s) r)
-      tests-passed o x l w i b =
-          again-passed (view s) r k o e (ap countAbove w ∙ count-small (length es) l (few inp)) i (ap₂ (λ (y : Shape) (q : Remedy). logLost y (view s) q k) x w ∙ lost-not l b)
+          → r .id ≡ idIn (view s) → Passed (recoveryTests (view s) r)
+      tests-passed o x l w i b d =
+          again-passed (view s) r k o e (ap countAbove w ∙ count-small (length es) l (few inp)) i (ap₂ (λ (y : Shape) (q : Remedy). logLost y (view s) q k) x w ∙ lost-not l b) d
 
   -- ---- the ends are reached
 
@@ -409,6 +413,7 @@ module _ (inp : Input) where
 pub power-cut : PowerCut
 power-cut pool staging ks sound typed =
     let inp : Input = record { pool = pool; staging = staging; ks = ks; sound = sound; typed = typed } in record {
+      begins = begins inp;
       uncut = uncut inp;
       recovered = recovered inp;
       short = short inp;

@@ -13,19 +13,19 @@ use borrow.Author.Tests.{le-ltb, lt-ltb, ltb-false, ne-eqb}
 use Rattle.rules.specs.Words.{word}
 use Rattle.rules.specs.Shape.{Shape, entryLimit, entrySize, logA, logB, logHead, zonesAt}
 use Rattle.rules.specs.Test.{first}
-use Rattle.rules.specs.Header.{openTests, shapeIn}
+use Rattle.rules.specs.Header.{idIn, openTests, shapeIn}
 use Rattle.rules.specs.Staging.{Store, entriesAt, goodTargets}
 use Rattle.rules.specs.Answer.{isRefused, refused}
 use Rattle.rules.proofs.Bool.{split}
 use Rattle.rules.proofs.Test.{Passed, first-passed, passed-first}
 use Rattle.rules.proofs.Shape.{Good}
 use Rattle.rules.proofs.Words.{put-out}
-use Rattle.rules.proofs.Header.{SameHeaders, passed-good, shape-same, tests-same}
+use Rattle.rules.proofs.Header.{SameHeaders, id-same, passed-good, shape-same, tests-same}
 use Rattle.rules.proofs.Transaction.{entries-count}
 use Rattle.powercut.specs.Log.{Log, countIn, fromA, fromB, logAt, logEntries, valid}
 use Rattle.powercut.specs.Steps.{Remedy, Step, barrier, clear, neither, nothing, recoverySteps, redo, replay, seals, stepPool, stepsMade, store}
 use Rattle.powercut.specs.Commit.{isStored, stepAnswer}
-use Rattle.powercut.specs.Recovery.{Progress, Recovery, RecoveryAfter, concludeRecovery, countAbove, doneSteps, finished, isRecovering, logLost, nextProgress, recovering, recoveryList, recoveryMore, recoveryNext, recoveryOn, recoveryStep, recoveryTests}
+use Rattle.powercut.specs.Recovery.{Progress, Recovery, RecoveryAfter, concludeRecovery, countAbove, doneSteps, finished, isRecovering, logLost, nextProgress, recovering, recoveryList, recoveryMore, recoveryNext, recoveryOn, recoveryStep, recoveryTests, withProgress}
 use Rattle.powercut.specs.WholeRun.{Accepted}
 use Rattle.powercut.specs.Requirements.{KeepsRecovery}
 use Rattle.powercut.specs.Advance.{RecoveryAdvances, between, recoveryBarrier, recoveryMade, redoBarrier}
@@ -183,22 +183,26 @@ more-goes : (m : ℕ) (x : RecoveryAfter) → isStored (x .answer) ≡ true → 
 unfolding recoveryMore
 more-goes m x e = rw e
 
-module _ (w : Remedy) where
+module _ (r : Recovery) where
+  abbrev w : Remedy
+  w = r .work
+
   abbrev at : ℕ → Recovery
-  at k = record { work = w; phase = recovering k }
+  at k = withProgress r (recovering k)
 
   -- with k steps made, the next one is not refused
   record Going (p : List ℕ) (k : ℕ) : Type 0 where
     opens : Passed (openTests p)
     possible : Possible (shapeIn p) p w k
+    id : r .id ≡ idIn p
 
   step-is : (p : List ℕ) (k : ℕ) → Going p k → recoveryStep p (at k) ≡ record {
     answer = stepAnswer k (length (recoveryList p (at k))) (getD (recoveryList p (at k)) k barrier);
     pool = stepPool (shapeIn p) (getD (recoveryList p (at k)) k barrier) p;
-    recovery = record { work = w; phase = nextProgress k (length (recoveryList p (at k))) };
+    recovery = withProgress r (nextProgress k (length (recoveryList p (at k))));
   }
   unfolding recoveryStep concludeRecovery recoveryNext recoveryList doneSteps
-  step-is p k h = rw (passed-first _ (again-passed p (at k) k (h .opens) refl (h .possible .count) (h .possible .place) (h .possible .log)))
+  step-is p k h = rw (passed-first _ (again-passed p (at k) k (h .opens) refl (h .possible .count) (h .possible .place) (h .possible .log) (h .id)))
 
   -- after a store the next step is possible, of the same list
   record After (q p : List ℕ) (k : ℕ) : Type 0 where
@@ -217,6 +221,7 @@ module _ (w : Remedy) where
             place = let e = part-of sh p w k (h .possible .place) .high in rw same-list (omega arith);
             log = ap (λ (x : Shape). logLost x q w (suc k)) same-shape ∙ kept .log;
           };
+          id = h .id ∙ sym (id-same q p heads);
         };
         shape = same-shape;
         list = same-list;
@@ -242,7 +247,7 @@ module _ (w : Remedy) where
 
   -- the steps of the list xs up to its barrier b made, which leave the pool q
   abbrev left : ℕ → List Step → List ℕ → RecoveryAfter
-  left b xs q = record { answer = stepAnswer b (length xs) barrier; pool = q; recovery = record { work = w; phase = nextProgress b (length xs) } }
+  left b xs q = record { answer = stepAnswer b (length xs) barrier; pool = q; recovery = withProgress r (nextProgress b (length xs)) }
 
   module _ (p : List ℕ) (k : ℕ) (h : Going p k) where
     abbrev sh : Shape
@@ -269,7 +274,7 @@ module _ (w : Remedy) where
         let x : getD xs k barrier ≡ barrier = ap (λ (i : ℕ). getD xs i barrier) e ∙ part .ends in
         more-stops m (recoveryStep p (at k)) (ap (λ (y : RecoveryAfter). isStored (y .answer)) (step-is p k h) ∙ ap (λ (y : Step). isStored (stepAnswer k (length xs) y)) x ∙ answer-barrier k (length xs))
         ∙ step-is p k h
-        ∙ ap₂ (λ (y : Step) (z : List ℕ). record { answer = stepAnswer k (length xs) y; pool = z; recovery = record { work = w; phase = nextProgress k (length xs) } }) x
+        ∙ ap₂ (λ (y : Step) (z : List ℕ). record { answer = stepAnswer k (length xs) y; pool = z; recovery = withProgress r (nextProgress k (length xs)) }) x
         (sym (made-next sh k (suc k) xs p (omega arith) place ∙ made-here sh (suc k) xs q))
 
     module _ (i : k < recoveryBarrier w k) where
@@ -281,7 +286,7 @@ module _ (w : Remedy) where
       on m =
           more-goes m (recoveryStep p (at k)) (ap (λ (y : RecoveryAfter). isStored (y .answer)) (step-is p k h) ∙ answer-stored k (length xs) (getD xs k barrier) more (part .stores i))
           ∙ ap (λ (y : RecoveryAfter). recoveryMore m (recoveryStep (y .pool) (y .recovery))) (step-is p k h)
-          ∙ ap (λ (f : Progress). recoveryMore m (recoveryStep q (record { work = w; phase = f }))) (progress-on k (length xs) (ne-eqb (suc k) (length xs) (let l = more in λ e. omega arith)))
+          ∙ ap (λ (f : Progress). recoveryMore m (recoveryStep q (withProgress r f))) (progress-on k (length xs) (ne-eqb (suc k) (length xs) (let l = more in λ e. omega arith)))
 
       made-on : recoveryMade q (at (suc k)) (suc k) (recoveryBarrier w (suc k)) ≡ recoveryMade p (at k) k (recoveryBarrier w k)
       unfolding recoveryMade
@@ -304,7 +309,7 @@ module _ (w : Remedy) where
   unfolding recoveryOn doneSteps
   makes-part p k a =
       let g = again-possible p (at k) (again-none p (at k) a) in
-      let h : Going p k = record { opens = g .0; possible = g .2 } in
+      let h : Going p k = record { opens = g .0; possible = g .2; id = g .3 } in
       let c = part p k h in
       goes (recoveryBarrier w k - k) p k (length (recoveryList p (at k)) - suc k) h (omega arith) (omega arith)
 
@@ -321,8 +326,8 @@ recovery-advances p r = record { refuses = refuses; makes = makes }
 
     makes : (k : ℕ) → r .phase ≡ recovering k → Accepted (recoveryStep p r .answer) → recoveryOn p r ≡ recoveryMade p r k (recoveryBarrier (r .work) k)
     makes k e =
-        subst (λ (f : Progress). Accepted (recoveryStep p (record { work = r .work; phase = f }) .answer)
-        → recoveryOn p (record { work = r .work; phase = f }) ≡ recoveryMade p (record { work = r .work; phase = f }) k (recoveryBarrier (r .work) k)) (sym e) (makes-part (r .work) p k)
+        subst (λ (f : Progress). Accepted (recoveryStep p (withProgress r f) .answer)
+        → recoveryOn p (withProgress r f) ≡ recoveryMade p (withProgress r f) k (recoveryBarrier (r .work) k)) (sym e) (makes-part r p k)
 
 -- ---- accepted and refused calls
 

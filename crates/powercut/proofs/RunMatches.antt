@@ -13,9 +13,9 @@ use borrow.Author.Tests.{eqb-true, eqb-false, ltb-false, ltb-true}
 use Rattle.rules.specs.Words.{word}
 use Rattle.rules.specs.Shape.{Shape, entryLimit, logA, logB, stagingSize}
 use Rattle.rules.specs.Test.{first}
-use Rattle.rules.specs.Header.{openTests, shapeIn}
+use Rattle.rules.specs.Header.{idIn, openTests, shapeIn}
 use Rattle.rules.specs.Seals.{unsealed}
-use Rattle.rules.specs.Staging.{Phase, Store, Tidy, Transaction, closed, commitLength, committing, entriesAt, goodTargets, isLive, live}
+use Rattle.rules.specs.Staging.{Phase, Store, Tidy, Transaction, closed, commitLength, committing, entriesAt, goodTargets, isLive, live, withPhase}
 use Rattle.rules.specs.Answer.{After, Given, conclude, isRefused}
 use Rattle.rules.specs.Plan.{Call}
 use Rattle.rules.specs.Calls.{AllTyped, begun, entriesIn, liveTests, recordTests}
@@ -24,13 +24,13 @@ use Rattle.rules.proofs.Bool.{and-split, or-false, split}
 use Rattle.rules.proofs.Test.{Passed, first-passed, not-not, passed-left, passed-right}
 use Rattle.rules.proofs.Shape.{Good}
 use Rattle.rules.proofs.Held.{Held}
-use Rattle.rules.proofs.Header.{SameHeaders, page-is, same-headers, shape-same, sound-good, sound-long, sound-opens, tests-same}
+use Rattle.rules.proofs.Header.{SameHeaders, id-same, page-is, same-headers, shape-same, sound-good, sound-long, sound-opens, tests-same}
 use Rattle.rules.proofs.Transaction.{Kept, calls-kept, calls-pool, entries-count, targets-good}
 use Rattle.rules.proofs.Sound.{begun-kept, sound-fits}
 use Rattle.powercut.specs.Steps.{Remedy, Step, barrier, clear, commitSteps, neither, nothing, recoverySteps, remedy, replay}
 use Rattle.powercut.specs.Power.{State, act, view}
 use Rattle.powercut.specs.Commit.{commitList, commitNext, commitStart, commitStep, commitTests, isCommitting, nextPhase, placeIn, startPhase}
-use Rattle.powercut.specs.Recovery.{Progress, Recovery, RecoveryAfter, concludeRecovery, countAbove, doneSteps, finished, impossibleRecovery, isRecovering, logLost, nextProgress, recovering, recoveryList, recoveryNext, recoveryStart, recoveryStep, recoveryTests, startRecovery}
+use Rattle.powercut.specs.Recovery.{Progress, Recovery, RecoveryAfter, concludeRecovery, countAbove, doneSteps, finished, impossibleRecovery, isRecovering, logLost, nextProgress, recovering, recoveryList, recoveryNext, recoveryStart, recoveryStep, recoveryTests, startRecovery, withProgress}
 use Rattle.powercut.specs.WholeRun.{Accepted, Holds, Makes, Run, cutOff, entries, holding, made, meets, resuming}
 use Rattle.powercut.specs.Claim.{new}
 use Rattle.powercut.proofs.StepRun.{Claim, StepRun, Entries, Clean, Position, atCommit, atCut, atRecovery}
@@ -76,23 +76,24 @@ pub record Possible (sh : Shape) (p : List ℕ) (w : Remedy) (k : ℕ) : Type 0 
   pub place : k < length (recoverySteps sh p w)
   pub log : logLost sh p w k ≡ false
 
-pub recovery-possible : (sh : Shape) (p : List ℕ) (r : Recovery) → isRecovering (r .phase) ≡ true → impossibleRecovery sh p r ≡ false → Possible sh p (r .work) (doneSteps (r .phase))
+pub recovery-possible : (sh : Shape) (p : List ℕ) (w : Remedy) (f : Progress) → isRecovering f ≡ true → impossibleRecovery sh p w f ≡ false → Possible sh p w (doneSteps f)
 unfolding impossibleRecovery
-recovery-possible sh p r i e =
-    let k : ℕ = doneSteps (r .phase) in
-    let n : ℕ = length (recoverySteps sh p (r .work)) in
-    let a = or-false (countAbove (r .work)) _ e in
-    let b : (true && (not (ltb k n) || logLost sh p (r .work) k)) ≡ false = rw i at (a .1) in
-    let c = or-false (not (ltb k n)) (logLost sh p (r .work) k) b in
+recovery-possible sh p w f i e =
+    let k : ℕ = doneSteps f in
+    let n : ℕ = length (recoverySteps sh p w) in
+    let a = or-false (countAbove w) _ e in
+    let b : (true && (not (ltb k n) || logLost sh p w k)) ≡ false = rw i at (a .1) in
+    let c = or-false (not (ltb k n)) (logLost sh p w k) b in
     record { count = a .0; place = ltb-true k n (not-not (ltb k n) (c .0)); log = c .1 }
 
-pub again-possible : (p : List ℕ) (r : Recovery) → first (recoveryTests p r) ≡ none → Passed (openTests p) × (isRecovering (r .phase) ≡ true) × Possible (shapeIn p) p (r .work) (doneSteps (r .phase))
+pub again-possible : (p : List ℕ) (r : Recovery) → first (recoveryTests p r) ≡ none
+    → Passed (openTests p) × (isRecovering (r .phase) ≡ true) × Possible (shapeIn p) p (r .work) (doneSteps (r .phase)) × (r .id ≡ idIn p)
 unfolding recoveryTests
 again-possible p r e =
     let t = first-passed _ e in
     let q = passed-right (openTests p) _ t in
-    let i = not-not (isRecovering (r .phase)) (q .1 .0) in
-    (passed-left (openTests p) _ t, i, recovery-possible (shapeIn p) p r i (q .0))
+    let i = not-not (isRecovering (r .phase)) (q .1 .1 .0) in
+    (passed-left (openTests p) _ t, i, recovery-possible (shapeIn p) p (r .work) (r .phase) i (q .0), eqb-true (r .id) (idIn p) (not-not (eqb (r .id) (idIn p)) (q .1 .0)))
 
 -- the step is one of its list, which has at most 259
 pub again-inside : (p : List ℕ) (r : Recovery) → first (recoveryTests p r) ≡ none → (doneSteps (r .phase) < length (recoveryList p r)) × (length (recoveryList p r) ≤ 259)
@@ -100,16 +101,16 @@ unfolding recoveryList
 again-inside p r e = let q = again-possible p r e .2 in (q .place, recovery-few (shapeIn p) p (r .work) (q .count))
 
 -- what the record is then
-pub start-left : (g : Given) → first (recordTests g ++ liveTests g) ≡ none → commitStart g .left .txn ≡ record { count = g .txn .count; phase = startPhase (g .txn .count) }
+pub start-left : (g : Given) → first (recordTests g ++ liveTests g) ≡ none → commitStart g .left .txn ≡ withPhase (g .txn) (startPhase (g .txn .count))
 unfolding commitStart conclude
 start-left g e = rw e
 
-pub step-left : (g : Given) → Accepted (commitStep g .answer) → commitStep g .left .txn ≡ record { count = g .txn .count; phase = nextPhase (placeIn (g .txn .phase)) (length (commitList g)) }
+pub step-left : (g : Given) → Accepted (commitStep g .answer) → commitStep g .left .txn ≡ withPhase (g .txn) (nextPhase (placeIn (g .txn .phase)) (length (commitList g)))
 unfolding commitStep conclude
 step-left g f = rw (step-none g f)
 
 pub again-left : (p : List ℕ) (r : Recovery) → Accepted (recoveryStep p r .answer)
-    → recoveryStep p r .recovery ≡ record { work = r .work; phase = nextProgress (doneSteps (r .phase)) (length (recoveryList p r)) }
+    → recoveryStep p r .recovery ≡ withProgress r (nextProgress (doneSteps (r .phase)) (length (recoveryList p r)))
 unfolding recoveryStep concludeRecovery
 again-left p r f = rw (again-none p r f)
 
@@ -249,6 +250,9 @@ module _ (inp : Input) where
   pub shape-is : {f : Position} {s : State} → StepRun sh es pool f s → shapeIn (view s) ≡ sh
   shape-is {f} {s} c = shape-same (view s) pool (same-head c)
 
+  pub id-is : {f : Position} {s : State} → StepRun sh es pool f s → idIn (view s) ≡ idIn pool
+  id-is {f} {s} c = id-same (view s) pool (same-head c)
+
   pub opens : {f : Position} {s : State} → StepRun sh es pool f s → Passed (openTests (view s))
   opens {f} {s} c = subst Passed (sym (tests-same (view s) pool (same-head c))) (sound-opens pool sound)
 
@@ -275,9 +279,9 @@ module _ (inp : Input) where
   RecoveryMatches q finished s = StepRun sh es pool (atRecovery q (length (recoverySteps sh (view s) q))) s
 
   abbrev pub Matches : Holds → State → Type 0
-  Matches (holding t) s = (t .count ≡ length es) × CommitMatches (t .phase) s
+  Matches (holding t) s = (t .count ≡ length es) × CommitMatches (t .phase) s × (t .id ≡ idIn pool)
   Matches cutOff s = StepRun sh es pool atCut s
-  Matches (resuming r) s = RecoveryMatches (r .work) (r .phase) s
+  Matches (resuming r) s = RecoveryMatches (r .work) (r .phase) s × (r .id ≡ idIn pool)
 
   pub some-step-run : (f : Phase) (s : State) → CommitMatches f s → (k : ℕ) × StepRun sh es pool (atCommit k) s
   some-step-run live s e = (0, subst (λ (x : State). StepRun sh es pool (atCommit 0) x) (sym e) StepRun.begin)
@@ -302,7 +306,7 @@ module _ (inp : Input) where
 
   start-matches : (t : Transaction) (s : State) → Matches (holding t) s → Accepted (commitStart (meets pool staging ks s t) .answer)
       → Matches (holding (commitStart (meets pool staging ks s t) .left .txn)) s
-  start-matches t s h f = subst (λ (x : Transaction). Matches (holding x) s) (sym left) (h .0, start-commit-matches (t .count) (t .phase) s (h .0) open-is long (h .1))
+  start-matches t s h f = subst (λ (x : Transaction). Matches (holding x) s) (sym left) (h .0, start-commit-matches (t .count) (t .phase) s (h .0) open-is long (h .1), h .2)
     where
       g : Given
       g = meets pool staging ks s t
@@ -319,7 +323,7 @@ module _ (inp : Input) where
       long : stagingSize ≤ length held-staging
       long = unfold recordTests in (ltb-false (length held-staging) stagingSize (passed-right (openTests (g .pool)) _ (passed-left (recordTests g) (liveTests g) all) .0))
 
-      left : commitStart (meets pool staging ks s t) .left .txn ≡ record { count = t .count; phase = startPhase (t .count) }
+      left : commitStart (meets pool staging ks s t) .left .txn ≡ withPhase t (startPhase (t .count))
       left = start-left g none-is
 
   -- a step of the commit
@@ -344,7 +348,7 @@ module _ (inp : Input) where
       on : isCommitting (t .phase) ≡ true
       on = unfold commitTests in (not-not (isCommitting (t .phase)) (passed-right (recordTests g) _ (first-passed (commitTests g) none-is) .0))
 
-      left : commitStep (meets pool staging ks s t) .left .txn ≡ record { count = t .count; phase = nextPhase (placeIn (t .phase)) (length (commitList (meets pool staging ks s t))) }
+      left : commitStep (meets pool staging ks s t) .left .txn ≡ withPhase t (nextPhase (placeIn (t .phase)) (length (commitList (meets pool staging ks s t))))
       left = step-left g f
 
       go : (p : Phase) → t .phase ≡ p → CommitMatches p s
@@ -355,12 +359,13 @@ module _ (inp : Input) where
           let m : commitList (meets pool staging ks s t) ≡ commitSteps sh es = list-met s t (c .2) (h .0) in
           let x : commitNext (meets pool staging ks s t) ≡ getD (commitSteps sh es) k barrier =
           next-is (meets pool staging ks s t) k (commitSteps sh es) e m in
-          let n : commitStep (meets pool staging ks s t) .left .txn ≡ record { count = t .count; phase = nextPhase k (length (commitSteps sh es)) } =
-          left ∙ ap₂ (λ (j : ℕ) (l : List Step). record { count = t .count; phase = nextPhase j (length l) }) (place-is (t .phase) k e) m in
+          let n : commitStep (meets pool staging ks s t) .left .txn ≡ withPhase t (nextPhase k (length (commitSteps sh es))) =
+          left ∙ ap₂ (λ (j : ℕ) (l : List Step). withPhase t (nextPhase j (length l))) (place-is (t .phase) k e) m in
           subst (λ (y : Transaction). Matches (holding y) (act sh es (commitNext (meets pool staging ks s t)) s)) (sym n) (
             h .0,
             subst (λ (y : Step). CommitMatches (nextPhase k (length (commitSteps sh es))) (act sh es y s)) (sym x)
                 (next-commit-matches k s (act sh es (getD (commitSteps sh es) k barrier) s) (c .1) (c .0) (StepRun.step (c .2) (c .0))),
+            h .2,
           )
 
   -- the start of a recovery
@@ -380,9 +385,9 @@ module _ (inp : Input) where
       begun-at = StepRun.recover c (claim .never-refused s c)
 
       go : (q : Remedy) → remedy sh (view s) ≡ q → Matches (resuming (startRecovery (view s) q .recovery)) s
-      go (replay l n) e = unfold startRecovery in ((let k = replay-count sh (view s) l n in omega arith), subst (λ (q : Remedy). StepRun sh es pool (atRecovery q 0) s) e begun-at)
-      go clear e = unfold startRecovery recoverySteps in (omega arith, subst (λ (q : Remedy). StepRun sh es pool (atRecovery q 0) s) e begun-at)
-      go nothing e = unfold startRecovery recoverySteps in (subst (λ (q : Remedy). StepRun sh es pool (atRecovery q 0) s) e begun-at)
+      go (replay l n) e = unfold startRecovery in (((let k = replay-count sh (view s) l n in omega arith), subst (λ (q : Remedy). StepRun sh es pool (atRecovery q 0) s) e begun-at), id-is c)
+      go clear e = unfold startRecovery recoverySteps in ((omega arith, subst (λ (q : Remedy). StepRun sh es pool (atRecovery q 0) s) e begun-at), id-is c)
+      go nothing e = unfold startRecovery recoverySteps in (subst (λ (q : Remedy). StepRun sh es pool (atRecovery q 0) s) e begun-at, id-is c)
       go neither e = absurd (claim .never-refused s c e)
 
   -- a step of a recovery
@@ -395,15 +400,15 @@ module _ (inp : Input) where
 
   again-matches : (r : Recovery) (s : State) → Matches (resuming r) s → Accepted (recoveryStep (view s) r .answer)
       → Matches (resuming (recoveryStep (view s) r .recovery)) (act sh es (recoveryNext (view s) r) s)
-  again-matches r s h f = go (r .phase) refl h
+  again-matches r s h f = go (r .phase) refl (h .0)
     where
       none-is : first (recoveryTests (view s) r) ≡ none
       none-is = again-none (view s) r f
 
       on : isRecovering (r .phase) ≡ true
-      on = unfold recoveryTests in (not-not (isRecovering (r .phase)) (passed-right (openTests (view s)) _ (first-passed (recoveryTests (view s) r) none-is) .1 .0))
+      on = unfold recoveryTests in (not-not (isRecovering (r .phase)) (passed-right (openTests (view s)) _ (first-passed (recoveryTests (view s) r) none-is) .1 .1 .0))
 
-      left : recoveryStep (view s) r .recovery ≡ record { work = r .work; phase = nextProgress (doneSteps (r .phase)) (length (recoveryList (view s) r)) }
+      left : recoveryStep (view s) r .recovery ≡ withProgress r (nextProgress (doneSteps (r .phase)) (length (recoveryList (view s) r)))
       left = again-left (view s) r f
 
       go : (p : Progress) → r .phase ≡ p → RecoveryMatches (r .work) p s → Matches (resuming (recoveryStep (view s) r .recovery)) (act sh es (recoveryNext (view s) r) s)
@@ -413,12 +418,14 @@ module _ (inp : Input) where
           let m : recoveryList (view s) r ≡ recoverySteps sh (view s) q = list-is (view s) r sh (shape-is (c .1)) in
           let x : recoveryNext (view s) r ≡ getD (recoverySteps sh (view s) q) k barrier =
           again-next (view s) r k (recoverySteps sh (view s) q) e m in
-          let n : recoveryStep (view s) r .recovery ≡ record { work = q; phase = nextProgress k (length (recoverySteps sh (view s) q)) } =
-          left ∙ ap₂ (λ (j : ℕ) (l : List Step). record { work = q; phase = nextProgress j (length l) }) (done-is (r .phase) k e) m in
+          let n : recoveryStep (view s) r .recovery ≡ withProgress r (nextProgress k (length (recoverySteps sh (view s) q))) =
+          left ∙ ap₂ (λ (j : ℕ) (l : List Step). withProgress r (nextProgress j (length l))) (done-is (r .phase) k e) m in
           let s′ : State = act sh es (getD (recoverySteps sh (view s) q) k barrier) s in
-          subst (λ (y : Recovery). Matches (resuming y) (act sh es (recoveryNext (view s) r) s)) (sym n)
-          (subst (λ (y : Step). RecoveryMatches q (nextProgress k (length (recoverySteps sh (view s) q))) (act sh es y s)) (sym x)
-          (next-recovery-matches q k (length (recoverySteps sh (view s) q)) s′ (recovery-length sh (view s) (view s′) q) (c .0) (StepRun.again (c .1) (c .0))))
+          subst (λ (y : Recovery). Matches (resuming y) (act sh es (recoveryNext (view s) r) s)) (sym n) (
+            subst (λ (y : Step). RecoveryMatches q (nextProgress k (length (recoverySteps sh (view s) q))) (act sh es y s)) (sym x)
+                (next-recovery-matches q k (length (recoverySteps sh (view s) q)) s′ (recovery-length sh (view s) (view s′) q) (c .0) (StepRun.again (c .1) (c .0))),
+            h .1,
+          )
 
   makes-matches : {h h′ : Holds} {s s′ : State} → Makes pool staging ks h s h′ s′ → Matches h s → Matches h′ s′
   makes-matches (Makes.commit {t} {s} f) m = start-matches t s m f
@@ -428,7 +435,7 @@ module _ (inp : Input) where
 
   -- EVERY RUN IS A RUN BY STEP NUMBERS
   pub run-matches : {h : Holds} {s : State} → Run pool staging ks h s → Matches h s
-  run-matches Run.begin = (count-is, subst (λ (f : Phase). CommitMatches f init) (sym (kept .live-is)) refl)
+  run-matches Run.begin = (count-is, subst (λ (f : Phase). CommitMatches f init) (sym (kept .live-is)) refl, kept .id-is ∙ ap idIn left-pool)
   run-matches (Run.next r m) = makes-matches m (run-matches r)
   run-matches (Run.cut {t} {s} {kept} r l) = StepRun.cut (some-step-run (t .phase) s (run-matches r .1) .1) l
-  run-matches (Run.cut-again {r = q} {s} {kept} r l) = StepRun.cut-again (some-recovery (q .work) (q .phase) s (run-matches r) .1) l
+  run-matches (Run.cut-again {r = q} {s} {kept} r l) = StepRun.cut-again (some-recovery (q .work) (q .phase) s (run-matches r .0) .1) l

@@ -9,14 +9,14 @@ use lib.ListN.{length, getD}
 use borrow.Author.Tests.{eqb-true, leb-false, leb-true, ne-eqb}
 use Rattle.rules.specs.Shape.{Shape}
 use Rattle.rules.specs.Header.{shapeIn}
-use Rattle.rules.specs.Staging.{Phase, Store, Transaction, closed, committing}
+use Rattle.rules.specs.Staging.{Phase, Store, Transaction, closed, committing, withPhase}
 use Rattle.rules.specs.Answer.{After, Given}
 use Rattle.rules.specs.Plan.{Call}
 use Rattle.rules.proofs.Bool.{split}
 use Rattle.powercut.specs.Steps.{Remedy, Step, barrier, commitSteps, recoverySteps, redo, stepsMade}
 use Rattle.powercut.specs.Power.{State, act, keep, view}
 use Rattle.powercut.specs.Commit.{commitList, commitOn, commitStep, madeAnswer, nextPhase, stepAnswer}
-use Rattle.powercut.specs.Recovery.{Progress, Recovery, RecoveryAfter, finished, nextProgress, recovering, recoveryList, recoveryOn, recoveryStep}
+use Rattle.powercut.specs.Recovery.{Progress, Recovery, RecoveryAfter, finished, nextProgress, recovering, recoveryList, recoveryOn, recoveryStep, withProgress}
 use Rattle.powercut.specs.WholeRun.{Accepted, Holds, Makes, Run, cutOff, entries, holding, made, meets, resuming}
 use Rattle.powercut.specs.Advance.{AdvanceRuns, Moment, RunOn, acts, between, commitBarrier, commitMade, inCommit, inRecovery, numberIn, recoveryBarrier, recoveryMade}
 use Rattle.powercut.proofs.Between.{between-next, between-past}
@@ -103,11 +103,11 @@ module _ (inp : Input) where
   size = length steps
 
   -- the transaction with k steps made
-  abbrev stepped : ℕ → ℕ → Transaction
-  stepped c k = record { count = c; phase = cond (eqb k size) closed (committing k) }
+  abbrev stepped : Transaction → ℕ → Transaction
+  stepped t k = withPhase t (cond (eqb k size) closed (committing k))
 
-  abbrev AtStep : ℕ → ℕ → State → Type 0
-  AtStep c k s = Runs (holding (stepped c k)) s
+  abbrev AtStep : Transaction → ℕ → State → Type 0
+  AtStep t k s = Runs (holding (stepped t k)) s
 
   record Met (t : Transaction) (s : State) (k : ℕ) : Type 0 where
     shape : shapeIn (view s) ≡ sh
@@ -131,14 +131,14 @@ module _ (inp : Input) where
         accepted = i .accepted;
       }
 
-  step-run : (c k : ℕ) (s : State) → AtStep c k s → k < size → AtStep c (suc k) (act sh es (getD steps k barrier) s)
+  step-run : (t₀ : Transaction) (k : ℕ) (s : State) → AtStep t₀ k s → k < size → AtStep t₀ (suc k) (act sh es (getD steps k barrier) s)
   unfolding nextPhase
-  step-run c k s r l =
-      let t : Transaction = stepped c k in
+  step-run t₀ k s r l =
+      let t : Transaction = stepped t₀ k in
       let e : t .phase ≡ committing k = rw (ne-eqb k size (λ d. omega arith)) in
       let m = run-met t s k r e in
-      let u : commitStep (met s t) .left .txn ≡ stepped c (suc k) = step-left (met s t) (m .accepted)
-      ∙ ap₂ (λ (j : ℕ) (l : List Step). record { count = c; phase = nextPhase j (length l) }) (place-is (t .phase) k e) (m .list) in
+      let u : commitStep (met s t) .left .txn ≡ stepped t₀ (suc k) = step-left (met s t) (m .accepted)
+      ∙ ap₂ (λ (j : ℕ) (l : List Step). withPhase t (nextPhase j (length l))) (place-is (t .phase) k e) (m .list) in
       subst (λ (y : Transaction). Runs (holding y) (act sh es (getD steps k barrier) s)) u
       (subst (λ (y : Step). Runs (holding (commitStep (met s t) .left .txn)) (act sh es y s)) (next-is (met s t) k steps e (m .list)) (Run.next r (Makes.step (m .accepted))))
 
@@ -167,30 +167,30 @@ module _ (inp : Input) where
       to-is : (j : ℕ) → to j ≡ made-on (between k j steps) s
       to-is j = ap₂ (λ (i : ℕ) (l : List Step). made-on (between i j l) s) (place-is (t .phase) k e) (m .list)
 
-      here : AtStep (t .count) k s
+      here : AtStep t k s
       here =
           let f : committing k ≡ cond (eqb k size) closed (committing k) = rw (ne-eqb k size (let a = m .low in let b = m .high in λ d. omega arith)) in
-          subst (λ (x : Phase). Runs (holding (record { count = t .count; phase = x })) s) (e ∙ f) r
+          subst (λ (x : Phase). Runs (holding (withPhase t x)) s) (e ∙ f) r
 
       number : numberIn (stepAnswer b n barrier) ≡ suc b
       number = number-answer b n barrier
 
-      last : Runs (holding (record { count = t .count; phase = nextPhase b n })) (to (suc b))
-      last = unfold nextPhase in (subst (λ (i : ℕ). Runs (holding (record { count = t .count; phase = nextPhase b i })) (to (suc b))) (sym (ap length (m .list)))
-          (subst (AtStep (t .count) (suc b)) (sym (to-is (suc b)))
-          (goes-to (AtStep (t .count)) steps (step-run (t .count)) k (suc b) s here (let a = m .low in omega arith) (let a = m .high in omega arith))))
+      last : Runs (holding (withPhase t (nextPhase b n))) (to (suc b))
+      last = unfold nextPhase in (subst (λ (i : ℕ). Runs (holding (withPhase t (nextPhase b i))) (to (suc b))) (sym (ap length (m .list)))
+          (subst (AtStep t (suc b)) (sym (to-is (suc b)))
+          (goes-to (AtStep t) steps (step-run t) k (suc b) s here (let a = m .low in omega arith) (let a = m .high in omega arith))))
 
       inner : (j : ℕ) → j ≤ suc b → (u : Transaction) × Runs (holding u) (to j)
       inner j l =
-          let w = comes-by (AtStep (t .count)) steps (step-run (t .count)) k j s here (let a = m .high in omega arith) in
-          (stepped (t .count) (w .0), subst (AtStep (t .count) (w .0)) (sym (to-is j)) (w .1))
+          let w = comes-by (AtStep t) steps (step-run t) k j s here (let a = m .high in omega arith) in
+          (stepped t (w .0), subst (AtStep t (w .0)) (sym (to-is j)) (w .1))
 
       made-is : Advanced t s (commitMade (met s t) k b)
       made-is = unfold commitMade in (record {
         accepted = answer-not-refused b n barrier;
-        run = subst (λ (j : ℕ). Runs (holding (record { count = t .count; phase = nextPhase b n })) (to j)) (sym number) last;
+        run = subst (λ (j : ℕ). Runs (holding (withPhase t (nextPhase b n))) (to j)) (sym number) last;
         inner = λ j l. inner j (subst (λ (i : ℕ). j ≤ i) number l);
-        leaves = ap (λ (p : List ℕ). record { pool = p; staging = made pool staging ks .left .staging; txn = record { count = t .count; phase = nextPhase b n } })
+        leaves = ap (λ (p : List ℕ). record { pool = p; staging = made pool staging ks .left .staging; txn = withPhase t (nextPhase b n) })
             (ap₂ (λ (x : Shape) (l : List Step). stepsMade x (between k (suc b) l) (view s)) (m .shape) (m .list)
             ∙ sym (acts-view (between k (suc b) steps) s) ∙ ap view (sym (to-is (suc b)) ∙ ap to (sym number)));
       })
@@ -201,11 +201,11 @@ module _ (inp : Input) where
   replayed = redo sh es
 
   -- the record with k steps made
-  abbrev resumed : Remedy → ℕ → Recovery
-  resumed w k = record { work = w; phase = cond (eqb k (length replayed)) finished (recovering k) }
+  abbrev resumed : Recovery → ℕ → Recovery
+  resumed r k = withProgress r (cond (eqb k (length replayed)) finished (recovering k))
 
-  abbrev AtAgain : Remedy → ℕ → State → Type 0
-  AtAgain w k s = Runs (resuming (resumed w k)) s
+  abbrev AtAgain : Recovery → ℕ → State → Type 0
+  AtAgain r k s = Runs (resuming (resumed r k)) s
 
   record MetAgain (r : Recovery) (s : State) (k : ℕ) : Type 0 where
     shape : shapeIn (view s) ≡ sh
@@ -216,7 +216,7 @@ module _ (inp : Input) where
 
   run-met-again : (r : Recovery) (s : State) (k : ℕ) → Runs (resuming r) s → r .phase ≡ recovering k → MetAgain r s k
   run-met-again r s k u e =
-      let c : RecoveryMatches inp (r .work) (recovering k) s = subst (λ (f : Progress). RecoveryMatches inp (r .work) f s) e (run-matches inp u) in
+      let c : RecoveryMatches inp (r .work) (recovering k) s = subst (λ (f : Progress). RecoveryMatches inp (r .work) f s) e (run-matches inp u .0) in
       let w = running-replay inp (r .work) s k c in
       let q : recoverySteps sh (view s) (r .work) ≡ replayed = ap (recoverySteps sh (view s)) (w .1)
       ∙ claim inp .replays s (w .0) (length es) k (subst (λ (y : Remedy). StepRun sh es pool (atRecovery y k) s) (w .1) (c .1)) in
@@ -229,14 +229,14 @@ module _ (inp : Input) where
         accepted = power-cut pool staging ks (inp .sound) (inp .typed) .resumes r s k u e .accepted;
       }
 
-  again-run : (w : Remedy) (k : ℕ) (s : State) → AtAgain w k s → k < length replayed → AtAgain w (suc k) (act sh es (getD replayed k barrier) s)
+  again-run : (r₀ : Recovery) (k : ℕ) (s : State) → AtAgain r₀ k s → k < length replayed → AtAgain r₀ (suc k) (act sh es (getD replayed k barrier) s)
   unfolding nextProgress
-  again-run w k s u l =
-      let r : Recovery = resumed w k in
+  again-run r₀ k s u l =
+      let r : Recovery = resumed r₀ k in
       let e : r .phase ≡ recovering k = rw (ne-eqb k (length replayed) (λ d. omega arith)) in
       let m = run-met-again r s k u e in
-      let f : recoveryStep (view s) r .recovery ≡ resumed w (suc k) = again-left (view s) r (m .accepted)
-      ∙ ap₂ (λ (j : ℕ) (l : List Step). record { work = w; phase = nextProgress j (length l) }) (done-is (r .phase) k e) (m .list) in
+      let f : recoveryStep (view s) r .recovery ≡ resumed r₀ (suc k) = again-left (view s) r (m .accepted)
+      ∙ ap₂ (λ (j : ℕ) (l : List Step). withProgress r (nextProgress j (length l))) (done-is (r .phase) k e) (m .list) in
       subst (λ (y : Recovery). Runs (resuming y) (act sh es (getD replayed k barrier) s)) f
       (subst (λ (y : Step). Runs (resuming (recoveryStep (view s) r .recovery)) (act sh es y s)) (again-next (view s) r k replayed e (m .list)) (Run.next u (Makes.again (m .accepted))))
 
@@ -264,28 +264,28 @@ module _ (inp : Input) where
       to-is : (j : ℕ) → to j ≡ made-on (between k j replayed) s
       to-is j = ap₂ (λ (i : ℕ) (l : List Step). made-on (between i j l) s) (done-is (r .phase) k e) (m .list)
 
-      here : AtAgain (r .work) k s
+      here : AtAgain r k s
       here =
           let f : recovering k ≡ cond (eqb k (length replayed)) finished (recovering k) = rw (ne-eqb k (length replayed) (let a = m .low in let b = m .high in λ d. omega arith)) in
-          subst (λ (x : Progress). Runs (resuming (record { work = r .work; phase = x })) s) (e ∙ f) u
+          subst (λ (x : Progress). Runs (resuming (withProgress r x)) s) (e ∙ f) u
 
       number : numberIn (stepAnswer b n barrier) ≡ suc b
       number = number-answer b n barrier
 
-      last : Runs (resuming (record { work = r .work; phase = nextProgress b n })) (to (suc b))
-      last = unfold nextProgress in (subst (λ (i : ℕ). Runs (resuming (record { work = r .work; phase = nextProgress b i })) (to (suc b))) (sym (ap length (m .list)))
-          (subst (AtAgain (r .work) (suc b)) (sym (to-is (suc b)))
-          (goes-to (AtAgain (r .work)) replayed (again-run (r .work)) k (suc b) s here (let a = m .low in omega arith) (let a = m .high in omega arith))))
+      last : Runs (resuming (withProgress r (nextProgress b n))) (to (suc b))
+      last = unfold nextProgress in (subst (λ (i : ℕ). Runs (resuming (withProgress r (nextProgress b i))) (to (suc b))) (sym (ap length (m .list)))
+          (subst (AtAgain r (suc b)) (sym (to-is (suc b)))
+          (goes-to (AtAgain r) replayed (again-run r) k (suc b) s here (let a = m .low in omega arith) (let a = m .high in omega arith))))
 
       inner : (j : ℕ) → j ≤ suc b → (x : Recovery) × Runs (resuming x) (to j)
       inner j l =
-          let w = comes-by (AtAgain (r .work)) replayed (again-run (r .work)) k j s here (let a = m .high in omega arith) in
-          (resumed (r .work) (w .0), subst (AtAgain (r .work) (w .0)) (sym (to-is j)) (w .1))
+          let w = comes-by (AtAgain r) replayed (again-run r) k j s here (let a = m .high in omega arith) in
+          (resumed r (w .0), subst (AtAgain r (w .0)) (sym (to-is j)) (w .1))
 
       made-is : AdvancedAgain r s (recoveryMade (view s) r k b)
       made-is = unfold recoveryMade in (record {
         accepted = answer-not-refused b n barrier;
-        run = subst (λ (j : ℕ). Runs (resuming (record { work = r .work; phase = nextProgress b n })) (to j)) (sym number) last;
+        run = subst (λ (j : ℕ). Runs (resuming (withProgress r (nextProgress b n))) (to j)) (sym number) last;
         inner = λ j l. inner j (subst (λ (i : ℕ). j ≤ i) number l);
         leaves = ap₂ (λ (x : Shape) (l : List Step). stepsMade x (between k (suc b) l) (view s)) (m .shape) (m .list)
             ∙ sym (acts-view (between k (suc b) replayed) s) ∙ ap view (sym (to-is (suc b)) ∙ ap to (sym number));

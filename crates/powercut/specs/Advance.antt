@@ -7,7 +7,7 @@ use Prim.Native.Nat.{ℕ, suc, _+_, _-_, _*_, _≤_, _<_}
 use lib.Dec.{leb}
 use lib.ListN.{length, take, drop}
 use Rattle.rules.specs.Header.{shapeIn}
-use Rattle.rules.specs.Staging.{Store, Transaction, committing}
+use Rattle.rules.specs.Staging.{Store, Transaction, committing, withPhase}
 use Rattle.rules.specs.Answer.{After, Answer, Given, address, done, passed, refused, started, stored, taken}
 use Rattle.rules.specs.Plan.{Call}
 use Rattle.rules.specs.Calls.{AllTyped}
@@ -15,7 +15,7 @@ use Rattle.rules.specs.Sound.{Sound}
 use Rattle.powercut.specs.Steps.{Remedy, Step, barrier, clear, neither, nothing, replay, stepsMade}
 use Rattle.powercut.specs.Power.{State, act, keep, view}
 use Rattle.powercut.specs.Commit.{commitList, commitOn, commitStep, nextPhase, placeIn, stepAnswer}
-use Rattle.powercut.specs.Recovery.{Recovery, RecoveryAfter, doneSteps, nextProgress, recovering, recoveryList, recoveryOn, recoveryStep}
+use Rattle.powercut.specs.Recovery.{Recovery, RecoveryAfter, doneSteps, nextProgress, recovering, recoveryList, recoveryOn, recoveryStep, withProgress}
 use Rattle.powercut.specs.WholeRun.{Accepted, Holds, Makes, Run, atFirst, cutOff, entries, holding, made, meets, resuming}
 
 -- Steps i + 1 to j of a list.
@@ -45,7 +45,7 @@ commitMade g k e = record {
   left = record {
     pool = stepsMade (shapeIn (g .pool)) (between k (suc e) (commitList g)) (g .pool);
     staging = g .staging;
-    txn = record { count = g .txn .count; phase = nextPhase e (length (commitList g)) };
+    txn = withPhase (g .txn) (nextPhase e (length (commitList g)));
   };
 }
 
@@ -53,7 +53,7 @@ unfoldable pub recoveryMade : List ℕ → Recovery → ℕ → ℕ → Recovery
 recoveryMade p r k e = record {
   answer = stepAnswer e (length (recoveryList p r)) barrier;
   pool = stepsMade (shapeIn p) (between k (suc e) (recoveryList p r)) p;
-  recovery = record { work = r .work; phase = nextProgress e (length (recoveryList p r)) };
+  recovery = withProgress r (nextProgress e (length (recoveryList p r)));
 }
 
 -- Only the first step can be refused, and then nothing is changed; else all steps of the part that are left are made, and no other.

@@ -11,7 +11,7 @@ use Rattle.rules.specs.Header.{shapeIn}
 use Rattle.rules.specs.Book.{Listed, find}
 use Rattle.rules.specs.Staging.{Store, Transaction, closed, commitLength, committing, lay, live}
 use Rattle.rules.specs.Plan.{Call}
-use Rattle.rules.specs.Calls.{AllTyped}
+use Rattle.rules.specs.Calls.{AllTyped, transactionStart}
 use Rattle.rules.specs.NewBook.{newBooks}
 use Rattle.rules.specs.Answer.{Answer, Given, taken}
 use Rattle.rules.specs.Seals.{unsealed}
@@ -94,6 +94,8 @@ module _ (pool staging : List ℕ) (ks : List Call) where
     pub over : Over holds
 
   pub record Requirement3 : Type 0 where
+    -- The transaction is begun.
+    pub begins : Accepted (transactionStart pool .answer)
     -- An uncut commit leaves the pool sound and all new.
     pub uncut : (t : Transaction) (s : State) → Runs (holding t) s → t .phase ≡ closed → End s true
     -- A recovery that ends leaves it sound, all old if no seal of that commit reached memory, else all new.

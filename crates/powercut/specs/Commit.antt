@@ -7,7 +7,7 @@ use lib.ListN.{length, getD}
 use Rattle.rules.specs.Test.{Test, first, when}
 use Rattle.rules.specs.Header.{shapeIn}
 use Rattle.rules.specs.Seals.{unsealed}
-use Rattle.rules.specs.Staging.{Phase, closed, committing, live}
+use Rattle.rules.specs.Staging.{Phase, closed, committing, live, withPhase}
 use Rattle.rules.specs.Answer.{After, Answer, Given, address, conclude, done, passed, refused, started, stored, taken}
 use Rattle.rules.specs.Calls.{entriesIn, liveTests, recordTests}
 use Rattle.powercut.specs.Steps.{Step, barrier, commitSteps, parity, stepPool, store}
@@ -24,7 +24,7 @@ startAnswer (suc n) = started
 unfoldable pub commitStart : Given → After
 commitStart g = conclude g (first (recordTests g ++ liveTests g)) (record {
   answer = startAnswer (g .txn .count);
-  left = record { pool = g .pool; staging = g .staging; txn = record { count = g .txn .count; phase = startPhase (g .txn .count) } };
+  left = record { pool = g .pool; staging = g .staging; txn = withPhase (g .txn) (startPhase (g .txn .count)) };
 })
 
 -- The answer to the step with number suc k of n: store or barrier, and "done" only after the last one.
@@ -69,7 +69,7 @@ commitStep g = conclude g (first (commitTests g)) (record {
   left = record {
     pool = stepPool (shapeIn (g .pool)) (commitNext g) (g .pool);
     staging = g .staging;
-    txn = record { count = g .txn .count; phase = nextPhase (placeIn (g .txn .phase)) (length (commitList g)) };
+    txn = withPhase (g .txn) (nextPhase (placeIn (g .txn .phase)) (length (commitList g)));
   };
 })
 

@@ -9,7 +9,7 @@ use lib.ListN.{length, getD}
 use Rattle.rules.specs.Words.{word}
 use Rattle.rules.specs.Shape.{Shape, entryLimit}
 use Rattle.rules.specs.Test.{Test, first, when}
-use Rattle.rules.specs.Header.{openTests, shapeIn}
+use Rattle.rules.specs.Header.{idIn, idTest, openTests, shapeIn}
 use Rattle.rules.specs.Answer.{Answer, done, started, refused}
 use Rattle.powercut.specs.Log.{countIn, logAt, valid}
 use Rattle.powercut.specs.Steps.{Remedy, Step, barrier, clear, neither, nothing, recoverySteps, remedy, replay, stepPool}
@@ -19,10 +19,15 @@ pub data Progress : Type 0 where
   recovering : ℕ → Progress
   finished : Progress
 
--- The record names the log that is replayed and its count, or clearing only; and the steps made.
+-- The record: the id of the pool that it was begun on; the log that is replayed and its count, or clearing only; and the steps made.
 pub record Recovery : Type 0 where
+  pub id : ℕ
   pub work : Remedy
   pub phase : Progress
+
+-- The record with other steps made.
+abbrev pub withProgress : Recovery → Progress → Recovery
+withProgress r f = record { id = r .id; work = r .work; phase = f }
 
 pub record RecoveryAfter : Type 0 where
   pub answer : Answer
@@ -35,15 +40,15 @@ concludeRecovery p r (some n) after = record { answer = refused n; pool = p; rec
 
 -- ---- The start.
 
--- A refused start hands back a record that can do nothing, since it was given none.
+-- A refused start hands back a record that no call takes, since it was given none: no pool that opens has id 0.
 abbrev pub idle : Recovery
-idle = record { work = neither; phase = finished }
+idle = record { id = 0; work = neither; phase = finished }
 
 -- A recovery without steps says done at its start. 22 both seals non-zero, neither log valid.
 unfoldable pub startRecovery : List ℕ → Remedy → RecoveryAfter
-startRecovery p (replay l n) = record { answer = started; pool = p; recovery = record { work = replay l n; phase = recovering 0 } }
-startRecovery p clear = record { answer = started; pool = p; recovery = record { work = clear; phase = recovering 0 } }
-startRecovery p nothing = record { answer = done 0; pool = p; recovery = record { work = nothing; phase = finished } }
+startRecovery p (replay l n) = record { answer = started; pool = p; recovery = record { id = idIn p; work = replay l n; phase = recovering 0 } }
+startRecovery p clear = record { answer = started; pool = p; recovery = record { id = idIn p; work = clear; phase = recovering 0 } }
+startRecovery p nothing = record { answer = done 0; pool = p; recovery = record { id = idIn p; work = nothing; phase = finished } }
 startRecovery p neither = record { answer = refused 22; pool = p; recovery = idle }
 
 unfoldable pub recoveryStart : List ℕ → RecoveryAfter
@@ -74,14 +79,17 @@ logLost sh p nothing k = false
 logLost sh p neither k = false
 
 -- Refusal 10: count above 127; while recovering, a place past its list, or its log lost.
-unfoldable pub impossibleRecovery : Shape → List ℕ → Recovery → Bool
-impossibleRecovery sh p r =
-    countAbove (r .work) || (isRecovering (r .phase)
-    && (not (ltb (doneSteps (r .phase)) (length (recoverySteps sh p (r .work)))) || logLost sh p (r .work) (doneSteps (r .phase))))
+unfoldable pub impossibleRecovery : Shape → List ℕ → Remedy → Progress → Bool
+impossibleRecovery sh p w f =
+    countAbove w || (isRecovering f && (not (ltb (doneSteps f) (length (recoverySteps sh p w))) || logLost sh p w (doneSteps f)))
 
+-- 2, 3, 4, 2; 10 record impossible; 11 record of another pool; 29 not recovering.
 unfoldable pub recoveryTests : List ℕ → Recovery → List Test
 recoveryTests p r =
-    openTests p ++ (when (impossibleRecovery (shapeIn p) p r) 10 ∷ when (not (isRecovering (r .phase))) 29 ∷ [])
+    openTests p ++ (when (impossibleRecovery (shapeIn p) p (r .work) (r .phase)) 10
+    ∷ idTest (r .id) p
+    ∷ when (not (isRecovering (r .phase))) 29
+    ∷ [])
 
 unfoldable pub recoveryList : List ℕ → Recovery → List Step
 recoveryList p r = recoverySteps (shapeIn p) p (r .work)
@@ -96,7 +104,7 @@ unfoldable pub recoveryStep : List ℕ → Recovery → RecoveryAfter
 recoveryStep p r = concludeRecovery p r (first (recoveryTests p r)) (record {
   answer = stepAnswer (doneSteps (r .phase)) (length (recoveryList p r)) (recoveryNext p r);
   pool = stepPool (shapeIn p) (recoveryNext p r) p;
-  recovery = record { work = r .work; phase = nextProgress (doneSteps (r .phase)) (length (recoveryList p r)) };
+  recovery = withProgress r (nextProgress (doneSteps (r .phase)) (length (recoveryList p r)));
 })
 
 -- ---- Up to the next barrier.

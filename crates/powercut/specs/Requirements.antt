@@ -39,8 +39,8 @@ KeepsGiven g x = isRefused (x .answer) ≡ true → x .left ≡ g
 abbrev pub KeepsRecovery : List ℕ → Recovery → RecoveryAfter → Type 0
 KeepsRecovery p r x = isRefused (x .answer) ≡ true → (x .pool ≡ p) × (x .recovery ≡ r)
 
--- REQUIREMENT 1, for all inputs. Look, its companion, scrub and poolscan are given the pool to read only; the start of a recovery is given no
--- record.
+-- REQUIREMENT 1, for all inputs. Look, its companion, scrub, poolscan and the beginning of a transaction are given the pool to read only; the
+-- start of a recovery is given no record.
 pub record Requirement1 : Type 0 where
   pub formats : (p : List ℕ) (R C Z id : ℕ) → KeepsPool p (formatted p R C Z id)
   pub mends : (p : List ℕ) → KeepsPool p (mendHeader p)

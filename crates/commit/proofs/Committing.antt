@@ -29,7 +29,7 @@ use Rattle.answers.specs.declared.Answer.the-variants.{Done, Started}
 use Rattle.powercut.proofs.RunMatches.{list-length}
 use Rattle.layout.specs.declared.Shape.{Shape}
 use Rattle.layout.specs.declared.Opened.the-variants as Opening
-use Rattle.layout.specs.Meaning.{InRange, answer, shapeOf}
+use Rattle.layout.specs.Meaning.{InRange, opened, shapeOf}
 use Rattle.log.specs.Targets.{read}
 use Rattle.actions.specs.declared.Action.{Action}
 use Rattle.actions.specs.declared.Action.the-variants.{Barrier}
@@ -165,13 +165,13 @@ committing-at closed e = cc
 
 -- ---- a step, or all up to the next barrier, on a record that was judged
 
-module _ (g : Given) {s : Shape} (e : answer (first (recordTests g)) (shapeIn (g .pool)) ≡ Opening.Good s) where
+module _ (g : Given) {s : Shape} (o : opened (g .pool) ≡ Opening.Good s) (e : first (recordTests g) ≡ none) where
   judged : first (commitTests g) ≡ first (turnTests (shapeOf s) (g .pool) (g .txn .phase))
   unfolding commitTests turnTests
-  judged = first-right (recordTests g) _ (record-passed g e) ∙ rw (record-shape g e)
+  judged = first-right (recordTests g) _ (record-passed g o e) ∙ rw (record-shape g o e)
 
   pub step-ready : Steps.Ready (shapeOf s) (g .pool) (g .staging) 0 (g .txn .count) 0
-  step-ready = let h = record-possible g e in ready-staged (shapeOf s) (g .pool) (record-shaped g e .size) (g .staging) (g .txn .count) 0 (h .0) (record-room g e) (h .2)
+  step-ready = let h = record-possible g o e in ready-staged (shapeOf s) (g .pool) (record-shaped g o e .size) (g .staging) (g .txn .count) 0 (h .0) (record-room g o e) (h .2)
 
   module _ {x : Turn} (u : x ≡ turnIn (shapeOf s) (g .pool) (g .txn .phase)) where
     module _ {i : ℕ} (q : x ≡ Refused i) where
@@ -192,11 +192,11 @@ module _ (g : Given) {s : Shape} (e : answer (first (recordTests g)) (shapeIn (g
 
       pub step-within : k < commitLength (g .txn .count)
       unfolding pastCommit
-      step-within = let h : pastCommit (g .txn .count) (g .txn .phase) ≡ false = record-possible g e .1 in leb-false (commitLength (g .txn .count)) k (rw at-place at h)
+      step-within = let h : pastCommit (g .txn .count) (g .txn .phase) ≡ false = record-possible g o e .1 in leb-false (commitLength (g .txn .count)) k (rw at-place at h)
 
       pub step-made : {y : After} → y ≡ madeOf (shapeOf s) g k → y ≡ commitStep g
       unfolding commitStep conclude commitList commitNext entriesIn madeOf
-      step-made h = h ∙ rw (judged ∙ goes-on .0, goes-on .1, ← (record-shape g e))
+      step-made h = h ∙ rw (judged ∙ goes-on .0, goes-on .1, ← (record-shape g o e))
 
       accepted : Accepted (commitStep g .answer)
       unfolding commitStep conclude

@@ -8,7 +8,7 @@ use lib.ListN.{length, getD}
 use Rattle.rules.specs.Shape.{Shape}
 use Rattle.rules.specs.Test.{Test, when}
 use Rattle.rules.specs.Seals.{unsealed}
-use Rattle.rules.specs.Staging.{Phase, entriesAt}
+use Rattle.rules.specs.Staging.{Phase, entriesAt, withPhase}
 use Rattle.rules.specs.Answer.{After, Given}
 use Rattle.powercut.specs.Steps.{Step, barrier, commitSteps, stepPool}
 use Rattle.powercut.specs.Commit.{isCommitting, nextPhase, placeIn, stepAnswer}
@@ -42,7 +42,7 @@ madeOf sh g k =
     let x : Step = getD xs k barrier in
     record {
       answer = stepAnswer k (length xs) x;
-      left = record { pool = stepPool sh x (g .pool); staging = g .staging; txn = record { count = g .txn .count; phase = nextPhase k (length xs) } };
+      left = record { pool = stepPool sh x (g .pool); staging = g .staging; txn = withPhase (g .txn) (nextPhase k (length xs)) };
     }
 
 -- The tests of a step on a record that was judged: 29, 21.

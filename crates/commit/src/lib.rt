@@ -2,6 +2,7 @@
 // the next barrier.
 ghost use mathlib.Core.Path.{_≡_};
 ghost use mathlib.Core.Bool.{not, _&&_};
+ghost use mathlib.Core.Option.{none};
 ghost use Prim.Native.Nat.{_+_, _<_};
 ghost use lib.Dec.{eqb};
 ghost use Rattle.rules.specs.Header.{shapeIn};
@@ -11,7 +12,7 @@ ghost use Rattle.rules.specs.Staging.{commitLength};
 ghost use Rattle.rules.specs.Calls.{recordTests};
 ghost use Rattle.powercut.specs.Commit.{commitOn, commitStep, placeIn};
 ghost use Rattle.powercut.specs.Advance.{commitBarrier, commitMade};
-ghost use Rattle.layout.specs.Meaning.{answer, InRange, Shaped, shapeOf};
+ghost use Rattle.layout.specs.Meaning.{InRange, opened, Shaped, shapeOf};
 ghost use Rattle.layout.specs.declared.Opened.the-variants.{Good};
 ghost use Rattle.actions.specs.Actions.{Ready};
 ghost use Rattle.record.specs.Meaning.{given, phaseOf};
@@ -38,22 +39,15 @@ enum Turn {
 pub fn start(txn: Record) -> Stepped
     ensures { λ r. ⌜ r ≡ startedWith txn ⌝ }
 {
-    let n = txn.count;
-    if n == 0 {
+    if txn.count == 0 {
         return Stepped {
             answer: Answer::Done(0),
-            txn: Record {
-                count: n,
-                phase: Phase::Closed,
-            },
+            txn: txn.in_phase(Phase::Closed),
         };
     }
     Stepped {
         answer: Answer::Started,
-        txn: Record {
-            count: n,
-            phase: Phase::Committing(0),
-        },
+        txn: txn.in_phase(Phase::Committing(0)),
     }
 }
 
@@ -72,20 +66,13 @@ fn sealed(s: Shape, pool: &[u8], k: usize) -> bool
 fn told(txn: Record, action: Action, k: usize, n: usize) -> Stepped
     ensures { λ r. ⌜ r ≡ steppedTo txn action k n ⌝ }
 {
-    let count = txn.count;
     if k == n {
         return Stepped {
             answer: Answer::Done(n),
-            txn: Record {
-                count,
-                phase: Phase::Closed,
-            },
+            txn: txn.in_phase(Phase::Closed),
         };
     }
-    let next = Record {
-        count,
-        phase: Phase::Committing(k),
-    };
+    let next = txn.in_phase(Phase::Committing(k));
     match action {
         Action::Store { at: _, val: _ } => Stepped {
             answer: Answer::Stored(k),
@@ -138,7 +125,7 @@ fn judge(s: Shape, pool: &[u8], phase: Phase) -> Turn
 
 // Makes the next step of a commit whose record was judged, or the first of refusals 29, 21.
 pub fn step(s: Shape, pool: &mut [u8], staging: &[u8], txn: Record) -> Stepped
-    requires { ⌜ answer (first (recordTests (given (now pool) (now staging) txn))) (shapeIn (now pool)) ≡ Good s ⌝ }
+    requires { ⌜ (opened (now pool) ≡ Good s) × (first (recordTests (given (now pool) (now staging) txn)) ≡ none) ⌝ }
     ensures { λ r. ⌜ afterOf r (now (pool .exit)) (now (staging .entry)) ≡ commitStep (given (now (pool .entry)) (now (staging .entry)) txn) ⌝ }
 {
     let phase = txn.phase;
@@ -153,7 +140,7 @@ pub fn step(s: Shape, pool: &mut [u8], staging: &[u8], txn: Record) -> Stepped
 
 // The same with all steps up to and with the next barrier.
 pub fn advance(s: Shape, pool: &mut [u8], staging: &[u8], txn: Record) -> Stepped
-    requires { ⌜ answer (first (recordTests (given (now pool) (now staging) txn))) (shapeIn (now pool)) ≡ Good s ⌝ }
+    requires { ⌜ (opened (now pool) ≡ Good s) × (first (recordTests (given (now pool) (now staging) txn)) ≡ none) ⌝ }
     ensures { λ r. ⌜ afterOf r (now (pool .exit)) (now (staging .entry)) ≡ commitOn (given (now (pool .entry)) (now (staging .entry)) txn) ⌝ }
 {
     let phase = txn.phase;

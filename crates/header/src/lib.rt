@@ -6,7 +6,7 @@ ghost use lib.ListN.{length, take, drop, getD, replicate};
 ghost use Rattle.rules.specs.Words.{field};
 ghost use Rattle.rules.specs.Check.{check as checkOf};
 ghost use Rattle.rules.specs.Shape.{pageSize, shape};
-ghost use Rattle.rules.specs.Header.{headerOk, headerShape, inRange, letters, same, within};
+ghost use Rattle.rules.specs.Header.{headerId, headerOk, headerShape, inRange, letters, same, within};
 
 // The byte at `at`.
 pub fn byte(h: &[u8], at: usize) -> usize
@@ -14,6 +14,14 @@ pub fn byte(h: &[u8], at: usize) -> usize
     ensures { λ r. ⌜ (r ≡ getD (now (h .entry)) at 0) × (r < 256) ⌝ }
 {
     h[at] as usize
+}
+
+// The pool id.
+pub fn id(h: &[u8]) -> u64
+    requires { ⌜ length (now h) ≡ pageSize ⌝ }
+    ensures { λ r. ⌜ r ≡ headerId (now (h .entry)) ⌝ }
+{
+    words::load64(h, 8)
 }
 
 // Whether `n` is 1 to `high`.
@@ -105,7 +113,7 @@ pub fn valid(h: &[u8]) -> bool
     if byte(h, 7) != 1 {
         return false;
     }
-    if words::load64(h, 8) == 0 {
+    if id(h) == 0 {
         return false;
     }
     if !check_ok(h) {

@@ -1,4 +1,4 @@
--- A pool opened, way out by way out; and what a caller knows of an opened pool. Assumes nothing.
+-- A pool opened, and its id, way out by way out; and what a caller knows of an opened pool. Assumes nothing.
 use Prim.Native.Nat.{ℕ, _≤_, _<_}
 use mathlib.Core.Path.{_≡_, refl, sym, ap, _∙_}
 use mathlib.Core.Bool.{Bool, true, false, not}
@@ -7,10 +7,11 @@ use mathlib.Core.List.{List, _++_}
 use native.Mathlib.Omega.{arith}
 use lib.Dec.{eqb}
 use lib.ListN.{length, take}
-use borrow.Author.Tests.{eq-eqb, eqb-true, le-ltb, lt-ltb, ne-eqb}
+use borrow.Author.Tests.{eq-eqb, eqb-true, le-ltb, lt-ltb, ltb-false, ne-eqb}
 use Rattle.rules.specs.Shape.{Shape as PoolShape, pageSize, poolSize, zonesAt}
 use Rattle.rules.specs.Test.{Test, first}
-use Rattle.rules.specs.Header.{differing, headerOk, headerShape, inRange, letters, openTests, pageAt, same, shapeIn, validHeader}
+use Rattle.rules.specs.Header.{differing, headerId, headerOk, headerShape, idIn, inRange, letters, openTests, pageAt, same, shapeIn, validHeader}
+use Rattle.rules.proofs.Bool.{split}
 use Rattle.rules.proofs.Chain.{and-stop}
 use Rattle.rules.proofs.Shape.{Good as GoodShape}
 use Rattle.rules.proofs.Test.{Passed, first-passed, not-not, passed-first, passed-left}
@@ -79,6 +80,19 @@ module _ (p : List ℕ) where
     unfolding opened openTests first answer
     open-neither h k = rw (le-ltb (length p) 512 l, ← e, h, ← f, k)
 
+  -- its id: the header's if that is valid, else the copy's; either, where both are one
+  module _ (x y : ℕ) (e : x ≡ headerId (pageAt p 0)) (f : y ≡ headerId (pageAt p 256)) where
+    pub id-header : (a : Bool) → a ≡ validHeader p 0 → a ≡ true → x ≡ idIn p
+    unfolding idIn
+    id-header a d h = rw (← d, h) e
+
+    pub id-copy : (a : Bool) → a ≡ validHeader p 0 → a ≡ false → y ≡ idIn p
+    unfolding idIn
+    id-copy a d h = rw (← d, h) f
+
+    pub id-equal : x ≡ y → x ≡ idIn p
+    id-equal g = split (validHeader p 0) (id-header (validHeader p 0) refl) (λ h. g ∙ id-copy (validHeader p 0) refl h)
+
 -- ---- what a caller knows of an opened pool
 
 pub answer-good : (o : Option ℕ) (sh : PoolShape) (s : Shape) → answer o sh ≡ Good s → (o ≡ none) × (shapeFrom sh ≡ s)
@@ -103,6 +117,10 @@ module _ (p : List ℕ) where
   pub open-refused : (n : ℕ) → opened p ≡ Refused n → first (openTests p) ≡ some n
   unfolding opened
   open-refused n e = answer-refused (first (openTests p)) (shapeIn p) n e
+
+  pub open-long : (s : Shape) → opened p ≡ Good s → 512 ≤ length p
+  unfolding openTests
+  open-long s e = ltb-false (length p) 512 (open-passed s e .0)
 
   pub passed-open : Passed (openTests p) → opened p ≡ Good (shapeFrom (shapeIn p))
   unfolding opened answer

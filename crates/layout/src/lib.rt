@@ -1,10 +1,10 @@
-// The pool's shape (01, "The pool's bytes"), its constants and checked constructor; and a pool opened.
+// The pool's shape (01, "The pool's bytes"), its constants and checked constructor; a pool opened, and its id.
 ghost use mathlib.Core.Path.{_≡_};
 ghost use mathlib.Core.Bool.{true, false};
 ghost use Prim.Native.Nat.{_*_, _≤_, _<_};
 ghost use lib.ListN.{length};
 ghost use Rattle.rules.specs.Shape.{InZones, bodyLimit, byteAt, entryLimit, logA, logB, pageSize, poolSize, rowAt, rowSize, shape, stagingSize, zoneAt, zoneCells, zoneSize, zonesAt};
-ghost use Rattle.rules.specs.Header.{headerOk, pageAt, same};
+ghost use Rattle.rules.specs.Header.{headerOk, idIn, pageAt, same};
 ghost use Rattle.layout.specs.Meaning.{InRange, checked, madeOf, opened, openedBy, shapeOf};
 
 // Bytes of a page, data rows of a zone, pages of a row, zones.
@@ -202,4 +202,20 @@ pub fn open(pool: &[u8]) -> Opened
         return open_one(pool);
     }
     open_two(pool)
+}
+
+// The pool's id: that of the first valid header. The first is judged only where the copy has another id.
+pub fn id(pool: &[u8]) -> u64
+    requires { ⌜ 2 * pageSize ≤ length (now pool) ⌝ }
+    ensures { λ r. ⌜ r ≡ idIn (now (pool .entry)) ⌝ }
+{
+    let first = header::id(&pool[0..256]);
+    let copy = header::id(&pool[256..512]);
+    if first == copy {
+        return first;
+    }
+    if header::valid(&pool[0..256]) {
+        return first;
+    }
+    copy
 }

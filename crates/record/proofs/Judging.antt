@@ -2,33 +2,35 @@
 use Prim.Native.Nat.{ℕ, zero, suc, _+_, _*_, _≤_, _<_}
 use mathlib.Core.Path.{_≡_, refl, sym, ap, _∙_}
 use mathlib.Core.Bool.{Bool, true, false, not, _||_}
-use mathlib.Core.Option.{none}
+use mathlib.Core.Option.{Option, none, some}
 use mathlib.Core.List.{List, [], _∷_, _++_}
 use native.Mathlib.Omega.{arith}
 use lib.Dec.{leb, ltb}
 use lib.ListN.{length}
-use borrow.Author.Tests.{le-ltb, lt-ltb, ltb-false}
+use borrow.Author.Tests.{eq-eqb, le-ltb, lt-ltb, ltb-false, ne-eqb}
 use Rattle.rules.specs.Words.{Bytes}
 use Rattle.rules.specs.Shape.{Shape as PoolShape, entryLimit, stagingSize}
 use Rattle.rules.specs.Test.{Test, first, when}
-use Rattle.rules.specs.Header.{openTests, shapeIn}
+use Rattle.rules.specs.Header.{idIn, idTest, openTests, shapeIn}
 use Rattle.rules.specs.Seals.{unsealed}
-use Rattle.rules.specs.Staging.{Phase, Transaction, closed, commitLength, committing, entriesAt, goodTargets, impossible, isLive, live, pastCommit}
+use Rattle.rules.specs.Staging.{Phase, closed, commitLength, committing, entriesAt, goodTargets, impossible, isLive, live, pastCommit}
 use Rattle.rules.specs.Answer.{Given}
 use Rattle.rules.specs.Calls.{liveTests, recordTests}
 use Rattle.rules.proofs.Test.{Passed, first-left, first-passed, first-right, not-not, passed-right}
 use Rattle.layout.specs.declared.Shape.{Shape}
 use Rattle.layout.specs.declared.Opened.the-variants as Opening
-use Rattle.layout.specs.Meaning.{Shaped, answer, opened, shapeOf}
+use Rattle.layout.specs.Meaning.{Shaped, opened, shapeOf}
 use Rattle.layout.proofs.Range.{shape-good}
-use Rattle.layout.proofs.Opening.{answer-good, answer-opened, answer-refused, open-good, open-passed, open-refused, open-shaped}
+use Rattle.layout.proofs.Opening.{open-good, open-passed, open-shaped}
 use Rattle.log.specs.Targets.{allFit, read}
 use Rattle.log.proofs.Targets.{all-fit-is}
 use Rattle.stage.proofs.View.{staged-good}
 use Rattle.answers.specs.Planned.{Judged}
 use Rattle.record.specs.declared.Phase as Code
 use Rattle.record.specs.declared.Phase.the-variants.{Closed, Committing, Open}
-use Rattle.record.specs.Meaning.{phaseOf}
+use Rattle.record.specs.declared.Verdict.{Verdict}
+use Rattle.record.specs.declared.Verdict.the-variants.{Good, Refused}
+use Rattle.record.specs.Meaning.{phaseOf, verdict}
 use Rattle.rules.proofs.Bool.{or-false}
 
 -- ---- the number of steps
@@ -80,87 +82,96 @@ live-only closed e = absurd (let z : _≡_ {A = ℕ} 0 1 = cc in omega arith)
 
 -- ---- the record
 
-module _ (sh : PoolShape) (st : List ℕ) (t : Transaction) where
-  pub impossible-many : entryLimit < t .count → false ≡ not (impossible sh st t)
+module _ (sh : PoolShape) (st : List ℕ) (n : ℕ) (f : Phase) where
+  pub impossible-many : entryLimit < n → false ≡ not (impossible sh st n f)
   unfolding impossible
-  impossible-many h = rw (lt-ltb entryLimit (t .count) h)
+  impossible-many h = rw (lt-ltb entryLimit n h)
 
-  module _ {x : Bool} (h : t .count ≤ entryLimit) (p : x ≡ pastCommit (t .count) (t .phase)) where
-    pub impossible-past : x ≡ true → false ≡ not (impossible sh st t)
+  module _ {x : Bool} (h : n ≤ entryLimit) (p : x ≡ pastCommit n f) where
+    pub impossible-past : x ≡ true → false ≡ not (impossible sh st n f)
     unfolding impossible
-    impossible-past y = rw (le-ltb entryLimit (t .count) h, ← p, y)
+    impossible-past y = rw (le-ltb entryLimit n h, ← p, y)
 
-    pub possible-fits : {y : Bool} → x ≡ false → y ≡ allFit sh (read st 0 (t .count)) → y ≡ not (impossible sh st t)
+    pub possible-fits : {y : Bool} → x ≡ false → y ≡ allFit sh (read st 0 n) → y ≡ not (impossible sh st n f)
     unfolding impossible
-    possible-fits {y} w q = rw (le-ltb entryLimit (t .count) h, ← p, w, ← (all-fit-is st 0 (t .count) sh), ← q) (twice y)
+    possible-fits {y} w q = rw (le-ltb entryLimit n h, ← p, w, ← (all-fit-is st 0 n sh), ← q) (twice y)
       where
         twice : (b : Bool) → b ≡ not (not b)
         twice true = refl
         twice false = refl
 
--- ---- 2, 3, 4, 2, 9, 10
+-- ---- 9, 10, 11, on a pool that opens
 
 module _ (g : Given) where
+  abbrev impossibleIn : PoolShape → Bool
+  impossibleIn sh = impossible sh (g .staging) (g .txn .count) (g .txn .phase)
+
   module _ {s : Shape} (e : opened (g .pool) ≡ Opening.Good s) where
     abbrev behind : List Test
-    behind = when (ltb (length (g .staging)) stagingSize) 9 ∷ when (impossible (shapeIn (g .pool)) (g .staging) (g .txn)) 10 ∷ []
+    behind = when (ltb (length (g .staging)) stagingSize) 9 ∷ when (impossibleIn (shapeIn (g .pool))) 10 ∷ idTest (g .txn .id) (g .pool) ∷ []
 
     opening : first (recordTests g) ≡ first behind
     unfolding recordTests
     opening = first-right (openTests (g .pool)) behind (open-passed (g .pool) s e)
 
-    pub judge-short : length (g .staging) < stagingSize → Opening.Refused 9 ≡ answer (first (recordTests g)) (shapeIn (g .pool))
-    unfolding answer first
+    pub judge-short : length (g .staging) < stagingSize → Refused 9 ≡ verdict (first (recordTests g))
+    unfolding verdict first
     judge-short h = rw (opening, lt-ltb (length (g .staging)) stagingSize h)
 
-    module _ {x : Bool} (h : stagingSize ≤ length (g .staging)) (q : x ≡ not (impossible (shapeOf s) (g .staging) (g .txn))) where
-      flip : {b : Bool} → x ≡ b → impossible (shapeIn (g .pool)) (g .staging) (g .txn) ≡ not b
-      flip y = ap (λ (z : PoolShape). impossible z (g .staging) (g .txn)) (sym (open-good (g .pool) s e .2)) ∙ other (sym q ∙ y)
+    module _ {x : Bool} (h : stagingSize ≤ length (g .staging)) (q : x ≡ not (impossibleIn (shapeOf s))) where
+      flip : {b : Bool} → x ≡ b → impossibleIn (shapeIn (g .pool)) ≡ not b
+      flip y = ap impossibleIn (sym (open-good (g .pool) s e .2)) ∙ other (sym q ∙ y)
         where
           other : {a b : Bool} → not a ≡ b → a ≡ not b
           other {a = true} e = rw (← e)
           other {a = false} e = rw (← e)
 
-      pub judge-bad : x ≡ false → Opening.Refused 10 ≡ answer (first (recordTests g)) (shapeIn (g .pool))
-      unfolding answer first
+      pub judge-bad : x ≡ false → Refused 10 ≡ verdict (first (recordTests g))
+      unfolding verdict first
       judge-bad y = rw (opening, le-ltb (length (g .staging)) stagingSize h, flip y)
 
-      pub judge-good : x ≡ true → Opening.Good s ≡ answer (first (recordTests g)) (shapeIn (g .pool))
-      unfolding answer first
-      judge-good y = rw (opening, le-ltb (length (g .staging)) stagingSize h, flip y, ← (open-good (g .pool) s e .2))
+      module _ {d : ℕ} (y : x ≡ true) (i : d ≡ idIn (g .pool)) where
+        pub judge-other : (g .txn .id ≡ d → ⊥) → Refused 11 ≡ verdict (first (recordTests g))
+        unfolding verdict first
+        judge-other n = rw (opening, le-ltb (length (g .staging)) stagingSize h, flip y, ne-eqb (g .txn .id) (idIn (g .pool)) (λ z. n (z ∙ sym i)))
 
-  pub judge-refused : {k : ℕ} → opened (g .pool) ≡ Opening.Refused k → Opening.Refused k ≡ answer (first (recordTests g)) (shapeIn (g .pool))
-  unfolding answer recordTests
-  judge-refused {k} e = rw (first-left (openTests (g .pool)) _ k (open-refused (g .pool) k e))
+        pub judge-good : g .txn .id ≡ d → Good ≡ verdict (first (recordTests g))
+        unfolding verdict first
+        judge-good z = rw (opening, le-ltb (length (g .staging)) stagingSize h, flip y, eq-eqb (g .txn .id) (idIn (g .pool)) (z ∙ i))
+
+-- ---- what a verdict tells
+
+pub verdict-good : {x : Verdict} (o : Option ℕ) → x ≡ verdict o → x ≡ Good → o ≡ none
+unfolding verdict
+verdict-good none v e = refl
+verdict-good (some n) v e = absurd (let z : _≡_ {A = ℕ} 0 1 = cc in omega arith)
+
+pub verdict-refused : {x : Verdict} {n : ℕ} (o : Option ℕ) → x ≡ verdict o → x ≡ Refused n → o ≡ some n
+unfolding verdict
+verdict-refused none v e = absurd (let z : _≡_ {A = ℕ} 0 1 = cc in omega arith)
+verdict-refused (some m) v e = cc
 
 -- ---- what a caller knows of a record that passed
 
-module _ (g : Given) {s : Shape} (e : answer (first (recordTests g)) (shapeIn (g .pool)) ≡ Opening.Good s) where
-  pub record-none : first (recordTests g) ≡ none
-  record-none = answer-good (first (recordTests g)) (shapeIn (g .pool)) s e .0
-
+module _ (g : Given) {s : Shape} (o : opened (g .pool) ≡ Opening.Good s) (e : first (recordTests g) ≡ none) where
   pub record-passed : Passed (recordTests g)
-  record-passed = first-passed (recordTests g) record-none
-
-  pub record-opened : opened (g .pool) ≡ Opening.Good s
-  unfolding recordTests
-  record-opened = answer-opened (g .pool) _ e
+  record-passed = first-passed (recordTests g) e
 
   pub record-shaped : Shaped (g .pool) (shapeOf s)
-  record-shaped = open-shaped (g .pool) s record-opened
+  record-shaped = open-shaped (g .pool) s o
 
   pub record-shape : shapeOf s ≡ shapeIn (g .pool)
-  record-shape = open-good (g .pool) s record-opened .2
+  record-shape = open-good (g .pool) s o .2
 
-  tests : (ltb (length (g .staging)) stagingSize ≡ false) × (impossible (shapeIn (g .pool)) (g .staging) (g .txn) ≡ false)
+  tests : (ltb (length (g .staging)) stagingSize ≡ false) × (impossibleIn g (shapeIn (g .pool)) ≡ false)
   unfolding recordTests
   tests = let h = passed-right (openTests (g .pool)) _ record-passed in (h .0, h .1 .0)
 
   pub record-room : stagingSize ≤ length (g .staging)
   record-room = ltb-false (length (g .staging)) stagingSize (tests .0)
 
-  possible : impossible (shapeOf s) (g .staging) (g .txn) ≡ false
-  possible = ap (λ (z : PoolShape). impossible z (g .staging) (g .txn)) record-shape ∙ tests .1
+  possible : impossibleIn g (shapeOf s) ≡ false
+  possible = ap (impossibleIn g) record-shape ∙ tests .1
 
   -- count at most 127, place within its list, targets that fit
   pub record-possible : (g .txn .count ≤ entryLimit) × (pastCommit (g .txn .count) (g .txn .phase) ≡ false) × (goodTargets (shapeOf s) (entriesAt (g .staging) 0 (g .txn .count)) ≡ true)
@@ -183,21 +194,19 @@ module _ (g : Given) {s : Shape} (e : answer (first (recordTests g)) (shapeIn (g
   judged = first-right (recordTests g) (liveTests g) record-passed
 
   module _ {x : Bool} (q : x ≡ isLive (g .txn .phase)) where
-    pub ready-closed : x ≡ false → Opening.Refused 29 ≡ answer (first (recordTests g ++ liveTests g)) (shapeIn (g .pool))
-    unfolding answer first liveTests
+    pub ready-closed : x ≡ false → Refused 29 ≡ verdict (first (recordTests g ++ liveTests g))
+    unfolding verdict first liveTests
     ready-closed y = rw (judged, ← q, y)
 
     module _ {y : Bool} (w : x ≡ true) (r : y ≡ unsealed (shapeOf s) (g .pool)) where
-      pub ready-sealed : y ≡ false → Opening.Refused 21 ≡ answer (first (recordTests g ++ liveTests g)) (shapeIn (g .pool))
-      unfolding answer first liveTests
+      pub ready-sealed : y ≡ false → Refused 21 ≡ verdict (first (recordTests g ++ liveTests g))
+      unfolding verdict first liveTests
       ready-sealed u = rw (judged, ← q, w, ← record-shape, ← r, u)
 
-      pub ready-good : y ≡ true → Opening.Good s ≡ answer (first (recordTests g ++ liveTests g)) (shapeIn (g .pool))
-      unfolding answer first liveTests
+      pub ready-good : y ≡ true → Good ≡ verdict (first (recordTests g ++ liveTests g))
+      unfolding verdict first liveTests
       ready-good u = rw (judged, ← q, w, ← record-shape, ← r, u)
 
-pub ready-refused : (g : Given) {k : ℕ} → answer (first (recordTests g)) (shapeIn (g .pool)) ≡ Opening.Refused k
-    → Opening.Refused k ≡ answer (first (recordTests g ++ liveTests g)) (shapeIn (g .pool))
-unfolding answer
-ready-refused g {k} e =
-    rw (first-left (recordTests g) (liveTests g) k (answer-refused (first (recordTests g)) (shapeIn (g .pool)) k e))
+pub ready-refused : (g : Given) {x : Verdict} {k : ℕ} → x ≡ verdict (first (recordTests g)) → x ≡ Refused k → Refused k ≡ verdict (first (recordTests g ++ liveTests g))
+unfolding verdict
+ready-refused g {x} {k} v e = rw (first-left (recordTests g) (liveTests g) k (verdict-refused (first (recordTests g)) v e))

@@ -2,17 +2,16 @@
 // function has a `requires`: each answers for all inputs, and its contract is one equation with the definition of that call, which gives
 // the answer and every byte of pool, staging and record.
 ghost use mathlib.Core.Path.{_≡_};
-ghost use Rattle.rules.specs.Staging.{fresh};
 ghost use Rattle.rules.specs.Plan.{allocate as Allocate, release, write as Write};
-ghost use Rattle.rules.specs.Calls.{call};
+ghost use Rattle.rules.specs.Calls.{call, transactionStart};
 ghost use Rattle.powercut.specs.Commit.{commitOn, commitStart, commitStep};
-ghost use Rattle.transaction.specs.Meaning.{afterOf, givenOf, refusedBack, stagedBack, steppedBack, transactionOf};
+ghost use Rattle.transaction.specs.Meaning.{afterOf, givenOf, refusedBack, stagedBack, startOf, steppedBack};
 use answers::Answer;
 use answers::Staged;
 use commit::Stepped;
 use layout::Opened;
-use record::Phase;
 use record::Record;
+use record::Verdict;
 
 // A transaction is its record.
 pub struct Transaction {
@@ -35,13 +34,14 @@ fn refused(txn: Record, n: u8) -> Reply
     }
 }
 
-// What a call that stages words hands back: the phase stays, and the count is the call's.
+// What a call that stages words hands back: id and phase stay, and the count is the call's.
 fn staged(txn: Record, s: Staged) -> Reply
     ensures { λ r. ⌜ r ≡ stagedBack txn s ⌝ }
 {
     let answer = s.answer;
     let phase = txn.phase;
     let txn = Record {
+        id: txn.id,
         count: s.count,
         phase,
     };
@@ -64,15 +64,19 @@ fn stepped(s: Stepped) -> Reply
 }
 
 impl Transaction {
-    // A fresh transaction: open and without entries.
-    pub fn new() -> Transaction
-        ensures { λ r. ⌜ transactionOf r ≡ fresh ⌝ }
+    // Begins a transaction on this pool: open and without entries. A refused one is closed, and no call takes it.
+    pub fn begin(pool: &[u8]) -> Reply
+        ensures { λ r. ⌜ startOf r ≡ transactionStart (now (pool .entry)) ⌝ }
     {
-        Transaction {
-            txn: Record {
-                count: 0,
-                phase: Phase::Open,
-            },
+        match log::quiet(pool) {
+            Opened::Refused(n) => refused(Record::unusable(), n),
+            Opened::Good(_) => {
+                let txn = Record::fresh(layout::id(pool));
+                Reply {
+                    answer: Answer::Taken,
+                    transaction: Transaction { txn },
+                }
+            }
         }
     }
 
@@ -81,14 +85,17 @@ impl Transaction {
         ensures { λ r. ⌜ afterOf r (now (pool .entry)) (now (staging .exit)) ≡ call (givenOf self (now (pool .entry)) (now (staging .entry))) (Allocate tag (now (body .entry))) ⌝ }
     {
         let txn = self.txn;
-        match record::ready(pool, staging, txn) {
+        match layout::open(pool) {
             Opened::Refused(n) => refused(txn, n),
-            Opened::Good(s) => {
-                staged(
-                    txn,
-                    allocate::allocate(pool, staging, txn.count, s, tag, body),
-                )
-            }
+            Opened::Good(s) => match record::ready(s, pool, staging, txn) {
+                Verdict::Refused(n) => refused(txn, n),
+                Verdict::Good => {
+                    staged(
+                        txn,
+                        allocate::allocate(pool, staging, txn.count, s, tag, body),
+                    )
+                }
+            },
         }
     }
 
@@ -104,14 +111,17 @@ impl Transaction {
         ensures { λ r. ⌜ afterOf r (now (pool .entry)) (now (staging .exit)) ≡ call (givenOf self (now (pool .entry)) (now (staging .entry))) (Write address at (now (bytes .entry))) ⌝ }
     {
         let txn = self.txn;
-        match record::ready(pool, staging, txn) {
+        match layout::open(pool) {
             Opened::Refused(n) => refused(txn, n),
-            Opened::Good(s) => {
-                staged(
-                    txn,
-                    write::write(pool, staging, txn.count, s, address, at, bytes),
-                )
-            }
+            Opened::Good(s) => match record::ready(s, pool, staging, txn) {
+                Verdict::Refused(n) => refused(txn, n),
+                Verdict::Good => {
+                    staged(
+                        txn,
+                        write::write(pool, staging, txn.count, s, address, at, bytes),
+                    )
+                }
+            },
         }
     }
 
@@ -120,9 +130,12 @@ impl Transaction {
         ensures { λ r. ⌜ afterOf r (now (pool .entry)) (now (staging .exit)) ≡ call (givenOf self (now (pool .entry)) (now (staging .entry))) (release address) ⌝ }
     {
         let txn = self.txn;
-        match record::ready(pool, staging, txn) {
+        match layout::open(pool) {
             Opened::Refused(n) => refused(txn, n),
-            Opened::Good(s) => { staged(txn, free::free(pool, staging, txn.count, s, address)) }
+            Opened::Good(s) => match record::ready(s, pool, staging, txn) {
+                Verdict::Refused(n) => refused(txn, n),
+                Verdict::Good => { staged(txn, free::free(pool, staging, txn.count, s, address)) }
+            },
         }
     }
 
@@ -131,9 +144,12 @@ impl Transaction {
         ensures { λ r. ⌜ afterOf r (now (pool .entry)) (now (staging .entry)) ≡ commitStart (givenOf self (now (pool .entry)) (now (staging .entry))) ⌝ }
     {
         let txn = self.txn;
-        match record::ready(pool, staging, txn) {
+        match layout::open(pool) {
             Opened::Refused(n) => refused(txn, n),
-            Opened::Good(_) => stepped(commit::start(txn)),
+            Opened::Good(s) => match record::ready(s, pool, staging, txn) {
+                Verdict::Refused(n) => refused(txn, n),
+                Verdict::Good => stepped(commit::start(txn)),
+            },
         }
     }
 
@@ -142,9 +158,12 @@ impl Transaction {
         ensures { λ r. ⌜ afterOf r (now (pool .exit)) (now (staging .entry)) ≡ commitStep (givenOf self (now (pool .entry)) (now (staging .entry))) ⌝ }
     {
         let txn = self.txn;
-        match record::judge(pool, staging, txn) {
+        match layout::open(pool) {
             Opened::Refused(n) => refused(txn, n),
-            Opened::Good(s) => stepped(commit::step(s, pool, staging, txn)),
+            Opened::Good(s) => match record::judge(s, pool, staging, txn) {
+                Verdict::Refused(n) => refused(txn, n),
+                Verdict::Good => stepped(commit::step(s, pool, staging, txn)),
+            },
         }
     }
 
@@ -153,9 +172,12 @@ impl Transaction {
         ensures { λ r. ⌜ afterOf r (now (pool .exit)) (now (staging .entry)) ≡ commitOn (givenOf self (now (pool .entry)) (now (staging .entry))) ⌝ }
     {
         let txn = self.txn;
-        match record::judge(pool, staging, txn) {
+        match layout::open(pool) {
             Opened::Refused(n) => refused(txn, n),
-            Opened::Good(s) => stepped(commit::advance(s, pool, staging, txn)),
+            Opened::Good(s) => match record::judge(s, pool, staging, txn) {
+                Verdict::Refused(n) => refused(txn, n),
+                Verdict::Good => stepped(commit::advance(s, pool, staging, txn)),
+            },
         }
     }
 }

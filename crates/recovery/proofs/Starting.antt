@@ -1,11 +1,13 @@
 -- The ways out of a recovery's start: what is to be done, and the reply. Assumes nothing.
-use Prim.Native.Nat.{ℕ}
+use Prim.Native.Nat.{ℕ, _*_, _≤_}
 use mathlib.Core.Path.{_≡_, refl}
 use mathlib.Core.Bool.{Bool, true, false}
 use mathlib.Core.List.{List}
+use native.Mathlib.Omega.{arith}
+use lib.ListN.{length}
 use borrow.Author.Tests.{eq-eqb, ne-eqb}
-use Rattle.rules.specs.Shape.{logA, logB}
-use Rattle.rules.specs.Header.{openTests}
+use Rattle.rules.specs.Shape.{logA, logB, pageSize}
+use Rattle.rules.specs.Header.{idIn, openTests}
 use Rattle.rules.proofs.Test.{passed-first}
 use Rattle.powercut.specs.Log.{countIn, valid}
 use Rattle.powercut.specs.Steps.{remedy}
@@ -13,16 +15,18 @@ use Rattle.powercut.specs.Recovery.{concludeRecovery, recoveryStart, startRecov
 use Rattle.words.specs.Loaded.{Loaded}
 use Rattle.layout.specs.declared.Shape.{Shape}
 use Rattle.layout.specs.declared.Opened.the-variants as Opening
-use Rattle.layout.specs.Meaning.{opened, shapeOf}
-use Rattle.layout.proofs.Opening.{open-good, open-passed, open-refused}
+use Rattle.layout.specs.Meaning.{Shaped, opened, shapeOf}
+use Rattle.layout.proofs.Opening.{open-good, open-passed, open-refused, shaped-room}
 use Rattle.log.proofs.Targets.{loaded-word}
-use Rattle.answers.specs.declared.Answer.the-variants.{Refused}
 use Rattle.recovery.specs.declared.Remedy.{Remedy}
 use Rattle.recovery.specs.declared.Remedy.the-variants.{Clear, Neither, Nothing, ReplayA, ReplayB}
-use Rattle.recovery.specs.declared.Progress.the-variants.{Finished}
 use Rattle.recovery.specs.declared.Reply.{Reply}
 use Rattle.recovery.specs.Meaning.{afterOf, remedyOf}
-use Rattle.recovery.specs.Advanced.{begun}
+use Rattle.recovery.specs.Advanced.{begun, refusedStart}
+
+-- both header pages are there
+pub headers-room : (s : Shape) (p : List ℕ) → Shaped p (shapeOf s) → 2 * pageSize ≤ length p
+headers-room s p h = let e = h .range .paged in let r = shaped-room p s h in omega arith
 
 -- ---- what is to be done
 
@@ -56,7 +60,7 @@ module _ (s : Shape) (p : List ℕ) (m n a b : ℕ) (em : m ≡ logA (shapeOf s)
 
 -- ---- the reply
 
-begun-start : (p : List ℕ) (w : Remedy) → afterOf (begun w) p ≡ startRecovery p (remedyOf w)
+begun-start : (p : List ℕ) (w : Remedy) → afterOf (begun (idIn p) w) p ≡ startRecovery p (remedyOf w)
 unfolding startRecovery
 begun-start p (ReplayA n) = refl
 begun-start p (ReplayB n) = refl
@@ -65,10 +69,11 @@ begun-start p Nothing = refl
 begun-start p Neither = refl
 
 module _ (p : List ℕ) where
-  pub start-refused : (n : ℕ) → opened p ≡ Opening.Refused n → afterOf (record { answer = Refused n; recovery = record { work = Neither; phase = Finished } }) p ≡ recoveryStart p
+  pub start-refused : (n : ℕ) (r : Reply) → opened p ≡ Opening.Refused n → r ≡ refusedStart n → afterOf r p ≡ recoveryStart p
   unfolding recoveryStart concludeRecovery
-  start-refused n e = rw (open-refused p n e)
+  start-refused n r e f = rw (open-refused p n e, f)
 
-  pub start-begun : (s : Shape) (w : Remedy) (r : Reply) → opened p ≡ Opening.Good s → remedyOf w ≡ remedy (shapeOf s) p → r ≡ begun w → afterOf r p ≡ recoveryStart p
+  pub start-begun : (s : Shape) (i : ℕ) (w : Remedy) (r : Reply) → opened p ≡ Opening.Good s → i ≡ idIn p → remedyOf w ≡ remedy (shapeOf s) p → r ≡ begun i w
+      → afterOf r p ≡ recoveryStart p
   unfolding recoveryStart concludeRecovery
-  start-begun s w r e f g = rw (passed-first (openTests p) (open-passed p s e), ← (open-good p s e .2), ← f, g) (begun-start p w)
+  start-begun s i w r e d f g = rw (passed-first (openTests p) (open-passed p s e), ← (open-good p s e .2), ← f, g, d) (begun-start p w)

@@ -4,16 +4,16 @@ use Prim.Native.Nat.{ℕ, suc, _+_, _*_, _<_, _≤_}
 use mathlib.Core.Path.{_≡_, refl, sym, ap, _∙_}
 use mathlib.Core.Bool.{Bool, true, false, not}
 use mathlib.Core.Option.{none, some}
-use mathlib.Core.List.{List, [], _∷_}
+use mathlib.Core.List.{List, []}
 use native.Mathlib.Numerals.{add-one}
 use native.Mathlib.Omega.{arith}
 use lib.Dec.{eqb, leb}
 use lib.ListN.{length, getD}
-use borrow.Author.Tests.{le-ltb, leb-false, leb-true, lt-ltb, ltb-false}
+use borrow.Author.Tests.{eq-eqb, le-ltb, leb-false, leb-true, lt-ltb, ltb-false, ne-eqb}
 use Rattle.rules.specs.Words.{word}
 use Rattle.rules.specs.Shape.{entryLimit, zonesAt}
-use Rattle.rules.specs.Test.{first, when}
-use Rattle.rules.specs.Header.{openTests, shapeIn}
+use Rattle.rules.specs.Test.{first}
+use Rattle.rules.specs.Header.{idIn, openTests, shapeIn}
 use Rattle.rules.specs.Answer.{refused}
 use Rattle.rules.proofs.Bool.{split}
 use Rattle.rules.proofs.Test.{first-left, first-right}
@@ -43,6 +43,7 @@ use Rattle.actions.specs.Parts.{PartMade}
 use Rattle.actions.proofs.Steps.{clear-step, computed-answer, computed-pool, ready-log, replay-step, told-answer}
 use Rattle.recovery.specs.declared.Remedy as Code
 use Rattle.recovery.specs.declared.Remedy.the-variants.{Clear}
+use Rattle.recovery.specs.declared.Progress.{Progress}
 use Rattle.recovery.specs.declared.Progress.the-variants.{Finished, Recovering}
 use Rattle.recovery.specs.declared.Recovery.{Recovery}
 use Rattle.recovery.specs.declared.Reply.{Reply}
@@ -92,12 +93,17 @@ module _ (s : Shape) (p : List ℕ) (k : ℕ) where
     unfolding Paper.impossibleRecovery Paper.countAbove Paper.isRecovering Paper.doneSteps Paper.logLost lostAt
     replay-lost x h g e = e ∙ rw (le-ltb entryLimit n h, replay-count (shapeOf s) p l n, lt-ltb k (2 * n + 5) g, q)
 
+-- all steps are made
+pub finished-impossible : (s : Shape) (p : List ℕ) (w : Remedy) (f : Progress) (x : Bool) → f ≡ Finished → x ≡ Paper.countAbove w → x ≡ Paper.impossibleRecovery (shapeOf s) p w (progressOf f)
+unfolding Paper.impossibleRecovery Paper.isRecovering
+finished-impossible s p w f x e h = rw (e, h) (split (Paper.countAbove w) (λ d. rw d) (λ d. rw d))
+
 -- ---- what a recovery that is not impossible has
 
 module _ (s : Shape) (p : List ℕ) (k : ℕ) (w : Remedy) (h : impossibleAt (shapeOf s) p w k ≡ false) where
   pub possible : Possible (shapeOf s) p w k
   unfolding Paper.isRecovering Paper.doneSteps
-  possible = recovery-possible (shapeOf s) p (record { work = w; phase = Paper.recovering k }) refl h
+  possible = recovery-possible (shapeOf s) p w (Paper.recovering k) refl h
 
   pub none-to-do : recoverySteps (shapeOf s) p w ≡ [] → ⊥
   none-to-do e = let m = possible in let n = ap length e in omega arith
@@ -155,20 +161,24 @@ module _ (s : Shape) (p : List ℕ) (k m : ℕ) (w : Remedy) where
 -- ---- what the record allows
 
 module _ (s : Shape) (p : List ℕ) (v : Recovery) where
-  pub found-many : (x : Bool) → v .phase ≡ Finished → x ≡ Paper.countAbove (remedyOf (v .work)) → x ≡ true → first (workTests (shapeOf s) p (recoveryOf v)) ≡ some 10
-  unfolding workTests first Paper.impossibleRecovery
-  found-many x e f h = rw (e, ← f, h)
+  module _ (x : Bool) (e : x ≡ Paper.impossibleRecovery (shapeOf s) p (remedyOf (v .work)) (progressOf (v .phase))) where
+    pub found-impossible : x ≡ true → first (workTests (shapeOf s) p (recoveryOf v)) ≡ some 10
+    unfolding workTests first
+    found-impossible h = rw (← e, h)
 
-  pub found-finished : (x : Bool) → v .phase ≡ Finished → x ≡ Paper.countAbove (remedyOf (v .work)) → x ≡ false → first (workTests (shapeOf s) p (recoveryOf v)) ≡ some 29
-  unfolding workTests first Paper.impossibleRecovery Paper.isRecovering
-  found-finished x e f h = rw (e, ← f, h)
+    -- i: the pool's id
+    module _ (h : x ≡ false) (i : ℕ) (d : i ≡ idIn p) where
+      pub found-other : (v .id ≡ i → ⊥) → first (workTests (shapeOf s) p (recoveryOf v)) ≡ some 11
+      unfolding workTests first
+      found-other f = rw (← e, h, ← d, ne-eqb (v .id) i f)
 
-  pub found-impossible : (k : ℕ) (x : Bool) → v .phase ≡ Recovering k → x ≡ impossibleAt (shapeOf s) p (remedyOf (v .work)) k → x ≡ true → first (workTests (shapeOf s) p (recoveryOf v)) ≡ some 10
-  unfolding workTests first
-  found-impossible k x e f h = rw (e, ← f, h)
+      module _ (f : v .id ≡ i) where
+        pub found-finished : v .phase ≡ Finished → first (workTests (shapeOf s) p (recoveryOf v)) ≡ some 29
+        unfolding workTests first Paper.isRecovering
+        found-finished g = rw (← e, h, ← d, eq-eqb (v .id) i f, g)
 
-  pub found-at : (k : ℕ) (x : Bool) → v .phase ≡ Recovering k → x ≡ impossibleAt (shapeOf s) p (remedyOf (v .work)) k → x ≡ false → FoundIs (shapeOf s) p (recoveryOf v) (At k)
-  found-at k x e f h = (ap progressOf e, sym f ∙ h)
+        pub found-at : (k : ℕ) → v .phase ≡ Recovering k → FoundIs (shapeOf s) p (recoveryOf v) (At k)
+        found-at k g = (ap progressOf g, rw g at (sym e ∙ h), f ∙ d)
 
   pub refused-found : {x : Found} {n : ℕ} → FoundIs (shapeOf s) p (recoveryOf v) x → x ≡ Refused n → first (workTests (shapeOf s) p (recoveryOf v)) ≡ some n
   refused-found h e = rw e at h
@@ -195,16 +205,16 @@ module _ (s : Shape) (p : List ℕ) (v : Recovery) where
   module _ (k : ℕ) (g : FoundIs (shapeOf s) p (recoveryOf v) (At k)) where
     none-refused : first (workTests (shapeOf s) p (recoveryOf v)) ≡ none
     unfolding workTests first Paper.isRecovering
-    none-refused = rw (g .0, g .1)
+    none-refused = rw (g .0, g .1, eq-eqb (v .id) (idIn p) (g .2))
 
     replied-leaves : (q : List ℕ) (x : Step) (a : Action) (j : ℕ) → Answers.answerOf (Steps.toldOf (suc j) a) ≡ madeAnswer (suc j) x
-        → afterOf (replied (v .work) a (suc j) (stepCount (remedyOf (v .work)))) q ≡ leaves (recoveryOf v) (recoverySteps (shapeOf s) p (remedyOf (v .work))) j x q
+        → afterOf (replied v a (suc j) (stepCount (remedyOf (v .work)))) q ≡ leaves (recoveryOf v) (recoverySteps (shapeOf s) p (remedyOf (v .work))) j x q
     unfolding replied stepAnswer Paper.nextProgress
     replied-leaves q x a j e =
         rw (count-is s p k (remedyOf (v .work)) (g .1)) (split (eqb (suc j) (stepCount (remedyOf (v .work)))) (λ h. rw h) (λ h. rw (h, e)))
 
     pub step-made : (a : Action) (q : List ℕ) (r : Reply) → Steps.Computed (Steps.actionOf (shapeOf s) p (getD (recoverySteps (shapeOf s) p (remedyOf (v .work))) k barrier)) (length p) a → q ≡ Steps.applied a p
-        → r ≡ replied (v .work) a (k + 1) (stepCount (remedyOf (v .work))) → afterOf r q ≡ stepped (shapeOf s) p (recoveryOf v)
+        → r ≡ replied v a (k + 1) (stepCount (remedyOf (v .work))) → afterOf r q ≡ stepped (shapeOf s) p (recoveryOf v)
     unfolding stepped Paper.concludeRecovery Paper.doneSteps
     step-made a q r c f e =
         let x : Step = getD (recoverySteps (shapeOf s) p (remedyOf (v .work))) k barrier in
@@ -212,7 +222,7 @@ module _ (s : Shape) (p : List ℕ) (v : Recovery) where
         (replied-leaves (stepPool (shapeOf s) x p) x a k (told-answer (suc k) a ∙ computed-answer (shapeOf s) p x _ a (length p) (suc k) c refl))
 
     pub advance-made : (q : List ℕ) (m j : ℕ) (r : Reply) → PartMade (shapeOf s) (recoverySteps (shapeOf s) p (remedyOf (v .work))) k (recoveryBarrier (remedyOf (v .work)) k) p q m
-        → r ≡ replied (v .work) Barrier j (stepCount (remedyOf (v .work))) → j ≡ m → afterOf r q ≡ advanced (shapeOf s) p (recoveryOf v)
+        → r ≡ replied v Barrier j (stepCount (remedyOf (v .work))) → j ≡ m → afterOf r q ≡ advanced (shapeOf s) p (recoveryOf v)
     unfolding advanced Paper.concludeRecovery Paper.doneSteps madeAnswer
     advance-made q m j r c e i = rw (none-refused, g .0, e, i, c .number, c .bytes) (replied-leaves _ barrier Barrier (recoveryBarrier (remedyOf (v .work)) k) refl)
 
@@ -224,9 +234,8 @@ module _ (p : List ℕ) (r : Paper.Recovery) where
   tests-are s e = first-right (openTests p) _ (open-passed p s e) ∙ rw (open-good p s e .2)
 
   pub step-refused : (n : ℕ) → opened p ≡ Opening.Refused n → record { answer = refused n; pool = p; recovery = r } ≡ Paper.recoveryStep p r
-  unfolding Paper.recoveryStep Paper.concludeRecovery Paper.recoveryTests
-  step-refused n e =
-      rw (first-left (openTests p) (when (Paper.impossibleRecovery (shapeIn p) p r) 10 ∷ when (not (Paper.isRecovering (r .phase))) 29 ∷ []) n (open-refused p n e))
+  unfolding Paper.recoveryStep Paper.concludeRecovery Paper.recoveryTests workTests
+  step-refused n e = rw (first-left (openTests p) (workTests (shapeIn p) p r) n (open-refused p n e))
 
   pub step-on : (s : Shape) → opened p ≡ Opening.Good s → stepped (shapeOf s) p r ≡ Paper.recoveryStep p r
   unfolding stepped Paper.recoveryStep Paper.recoveryList Paper.recoveryNext

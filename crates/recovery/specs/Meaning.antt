@@ -27,7 +27,7 @@ progressOf Finished = Paper.finished
 
 -- The record.
 abbrev pub recoveryOf : Recovery → Paper.Recovery
-recoveryOf r = record { work = remedyOf (r .work); phase = progressOf (r .phase) }
+recoveryOf r = record { id = r .id; work = remedyOf (r .work); phase = progressOf (r .phase) }
 
 -- A reply, with the pool that the call leaves.
 abbrev pub afterOf : Reply → List ℕ → Paper.RecoveryAfter

@@ -7,14 +7,14 @@ ghost use Prim.Native.Nat.{_≤_};
 ghost use lib.ListN.{getD, length};
 ghost use Rattle.rules.specs.Shape.{entryLimit};
 ghost use Rattle.powercut.specs.Steps.{barrier, recoverySteps, remedy};
-ghost use Rattle.powercut.specs.Recovery.{countAbove, recoveryOn, recoveryStart, recoveryStep};
+ghost use Rattle.powercut.specs.Recovery.{countAbove, impossibleRecovery, recoveryOn, recoveryStart, recoveryStep};
 ghost use Rattle.powercut.specs.Advance.{recoveryBarrier};
 ghost use Rattle.layout.specs.Meaning.{Shaped, shapeOf};
 ghost use Rattle.log.specs.Places.{LogAt};
 ghost use Rattle.actions.specs.Actions.{Computed, actionOf};
 ghost use Rattle.actions.specs.Parts.{PartMade};
-ghost use Rattle.recovery.specs.Meaning.{afterOf, recoveryOf, remedyOf};
-ghost use Rattle.recovery.specs.Advanced.{FoundIs, ReplayImpossible, advanced, begun, impossibleAt, lostAt, replied, stepCount, stepped};
+ghost use Rattle.recovery.specs.Meaning.{afterOf, progressOf, recoveryOf, remedyOf};
+ghost use Rattle.recovery.specs.Advanced.{FoundIs, ReplayImpossible, advanced, begun, impossibleAt, lostAt, refusedStart, replied, stepCount, stepped};
 use actions::Action;
 use answers::Answer;
 use layout::Opened;
@@ -35,8 +35,9 @@ pub enum Progress {
     Finished,
 }
 
-// The record that goes from call to call.
+// The record that goes from call to call, with the id of the pool that it was begun on.
 pub struct Recovery {
+    pub id: u64,
     pub work: Remedy,
     pub phase: Progress,
 }
@@ -59,18 +60,12 @@ impl Recovery {
         ensures { λ r. ⌜ afterOf r (now (pool .entry)) ≡ recoveryStart (now (pool .entry)) ⌝ }
     {
         match layout::open(pool) {
-            Opened::Refused(n) => Reply {
-                answer: Answer::Refused(n),
-                recovery: Recovery {
-                    work: Remedy::Neither,
-                    phase: Progress::Finished,
-                },
-            },
-            Opened::Good(s) => begin(find(s, pool)),
+            Opened::Refused(n) => refused(n),
+            Opened::Good(s) => begin(layout::id(pool), find(s, pool)),
         }
     }
 
-    // Makes the next step, or the first of refusals 2, 3, 4, 2, 10, 29.
+    // Makes the next step, or the first of refusals 2, 3, 4, 2, 10, 11, 29.
     pub fn step(self, pool: &mut [u8]) -> Reply
         ensures { λ r. ⌜ afterOf r (now (pool .exit)) ≡ recoveryStep (now (pool .entry)) (recoveryOf self) ⌝ }
     {
@@ -83,7 +78,7 @@ impl Recovery {
         }
     }
 
-    // Makes all steps up to the next barrier, or the first of refusals 2, 3, 4, 2, 10, 29.
+    // Makes all steps up to the next barrier, or the first of refusals 2, 3, 4, 2, 10, 11, 29.
     pub fn advance(self, pool: &mut [u8]) -> Reply
         ensures { λ r. ⌜ afterOf r (now (pool .exit)) ≡ recoveryOn (now (pool .entry)) (recoveryOf self) ⌝ }
     {
@@ -124,15 +119,31 @@ fn find(s: Shape, pool: &[u8]) -> Remedy
     Remedy::Neither
 }
 
+// What a refused start hands back: no call takes it.
+fn refused(n: u8) -> Reply
+    ensures { λ r. ⌜ r ≡ refusedStart n ⌝ }
+{
+    Reply {
+        answer: Answer::Refused(n),
+        recovery: Recovery {
+            id: 0,
+            work: Remedy::Neither,
+            phase: Progress::Finished,
+        },
+    }
+}
+
 // A recovery started; done at once if it has no step; refusal 22 if neither log is valid and no seal zero.
-fn begin(work: Remedy) -> Reply
-    ensures { λ r. ⌜ r ≡ begun work ⌝ }
+fn begin(id: u64, work: Remedy) -> Reply
+    ensures { λ r. ⌜ r ≡ begun id work ⌝ }
 {
     let fresh = Recovery {
+        id,
         work,
         phase: Progress::Recovering(0),
     };
     let ended = Recovery {
+        id,
         work,
         phase: Progress::Finished,
     };
@@ -153,14 +164,11 @@ fn begin(work: Remedy) -> Reply
             answer: Answer::Done(0),
             recovery: ended,
         },
-        Remedy::Neither => Reply {
-            answer: Answer::Refused(22),
-            recovery: ended,
-        },
+        Remedy::Neither => refused(22),
     }
 }
 
-// The next step on a pool that opens: the first of refusals 10, 29, or the step made.
+// The next step on a pool that opens: the first of refusals 10, 11, 29, or the step made.
 fn step_in(recovery: Recovery, s: Shape, pool: &mut [u8]) -> Reply
     requires { ⌜ Shaped (now pool) (shapeOf s) ⌝ }
     ensures { λ r. ⌜ afterOf r (now (pool .exit)) ≡ stepped (shapeOf s) (now (pool .entry)) (recoveryOf recovery) ⌝ }
@@ -174,12 +182,12 @@ fn step_in(recovery: Recovery, s: Shape, pool: &mut [u8]) -> Reply
             let work = recovery.work;
             let action = action_at(work, k, s, pool);
             actions::apply(pool, action);
-            told(work, action, k + 1)
+            told(recovery, action, k + 1)
         }
     }
 }
 
-// All steps up to the next barrier on a pool that opens: the first of refusals 10, 29, or the steps made.
+// All steps up to the next barrier on a pool that opens: the first of refusals 10, 11, 29, or the steps made.
 fn advance_in(recovery: Recovery, s: Shape, pool: &mut [u8]) -> Reply
     requires { ⌜ Shaped (now pool) (shapeOf s) ⌝ }
     ensures { λ r. ⌜ afterOf r (now (pool .exit)) ≡ advanced (shapeOf s) (now (pool .entry)) (recoveryOf recovery) ⌝ }
@@ -192,31 +200,38 @@ fn advance_in(recovery: Recovery, s: Shape, pool: &mut [u8]) -> Reply
         Found::At(k) => {
             let work = recovery.work;
             let made = make_part(work, k, s, pool);
-            told(work, Action::Barrier, made)
+            told(recovery, Action::Barrier, made)
         }
     }
 }
 
-// The first of refusals 10, 29, or how many steps are made.
+// The first of refusals 10, 11, 29, or how many steps are made.
 fn judge(recovery: Recovery, s: Shape, pool: &[u8]) -> Found
     requires { ⌜ Shaped (now pool) (shapeOf s) ⌝ }
     ensures { λ r. ⌜ FoundIs (shapeOf s) (now (pool .entry)) (recoveryOf recovery) r ⌝ }
 {
     let work = recovery.work;
     let phase = recovery.phase;
+    if impossible(work, phase, s, pool) {
+        return Found::Refused(10);
+    }
+    if recovery.id != layout::id(pool) {
+        return Found::Refused(11);
+    }
     match phase {
-        Progress::Finished => {
-            if many(work) {
-                return Found::Refused(10);
-            }
-            Found::Refused(29)
-        }
-        Progress::Recovering(k) => {
-            if impossible(work, k, s, pool) {
-                return Found::Refused(10);
-            }
-            Found::At(k)
-        }
+        Progress::Finished => Found::Refused(29),
+        Progress::Recovering(k) => Found::At(k),
+    }
+}
+
+// Whether the record is impossible: while recovering, by its place and its log too.
+fn impossible(work: Remedy, phase: Progress, s: Shape, pool: &[u8]) -> bool
+    requires { ⌜ Shaped (now pool) (shapeOf s) ⌝ }
+    ensures { λ r. ⌜ r ≡ impossibleRecovery (shapeOf s) (now (pool .entry)) (remedyOf work) (progressOf phase) ⌝ }
+{
+    match phase {
+        Progress::Finished => many(work),
+        Progress::Recovering(k) => impossible_at(work, k, s, pool),
     }
 }
 
@@ -234,7 +249,7 @@ fn many(work: Remedy) -> bool
 }
 
 // Whether a recovery with k steps made is impossible.
-fn impossible(work: Remedy, k: usize, s: Shape, pool: &[u8]) -> bool
+fn impossible_at(work: Remedy, k: usize, s: Shape, pool: &[u8]) -> bool
     requires { ⌜ Shaped (now pool) (shapeOf s) ⌝ }
     ensures { λ r. ⌜ r ≡ impossibleAt (shapeOf s) (now (pool .entry)) (remedyOf work) k ⌝ }
 {
@@ -320,21 +335,25 @@ fn steps_of(work: Remedy) -> usize
 }
 
 // The reply to step k, from 1: done with the last.
-fn told(work: Remedy, action: Action, k: usize) -> Reply
-    requires { ⌜ countAbove (remedyOf work) ≡ false ⌝ }
-    ensures { λ r. ⌜ r ≡ replied work action k (stepCount (remedyOf work)) ⌝ }
+fn told(recovery: Recovery, action: Action, k: usize) -> Reply
+    requires { ⌜ countAbove (remedyOf (recovery .work)) ≡ false ⌝ }
+    ensures { λ r. ⌜ r ≡ replied recovery action k (stepCount (remedyOf (recovery .work))) ⌝ }
 {
+    let id = recovery.id;
+    let work = recovery.work;
     let n = steps_of(work);
     if k == n {
         return Reply {
             answer: Answer::Done(n),
             recovery: Recovery {
+                id,
                 work,
                 phase: Progress::Finished,
             },
         };
     }
     let recovery = Recovery {
+        id,
         work,
         phase: Progress::Recovering(k),
     };

@@ -5,7 +5,7 @@ use mathlib.Core.List.{List}
 use Rattle.rules.specs.Staging as Staging
 use Rattle.rules.specs.Answer.{After, Changed, Given}
 use Rattle.rules.specs.Plan.{Call}
-use Rattle.rules.specs.Calls.{call}
+use Rattle.rules.specs.Calls.{TransactionStart, call, transactionStart}
 use Rattle.powercut.specs.Recovery as Paper
 use Rattle.powercut.specs.Recovery.{RecoveryAfter}
 use Rattle.answers.specs.Meaning.{answerOf, valueOf}
@@ -14,7 +14,7 @@ use Rattle.pool.specs.declared.Outcome.{Outcome}
 use Rattle.pool.specs.Meaning as Pool
 use Rattle.transaction.specs.declared.Transaction as Public
 use Rattle.transaction.specs.declared.Reply as PublicReply
-use Rattle.transaction.specs.Meaning.{afterOf, givenOf, transactionOf}
+use Rattle.transaction.specs.Meaning.{afterOf, givenOf, startOf, transactionOf}
 use Rattle.recovery.specs.declared.Recovery as PublicRecord
 use Rattle.recovery.specs.declared.Reply as PublicRecovery
 use Rattle.recovery.specs.Meaning as Recovery
@@ -23,14 +23,23 @@ use Rattle.pool_c.specs.declared.transactions.Transaction.{Transaction}
 use Rattle.pool_c.specs.declared.transactions.Reply.{Reply}
 use Rattle.pool_c.specs.declared.recoveries.Recovery as C
 use Rattle.pool_c.specs.declared.recoveries.RecoveryReply.{RecoveryReply}
-use Rattle.pool_c.specs.Meaning.{Fits64, afterOut, changedOut, givenIn, phaseIn, phaseOut, recoveryAfterOut, recoveryIn, recoveryReplyOut, replyOut, transactionIn}
+use Rattle.pool_c.specs.Meaning.{Fits64, afterOut, changedOut, givenIn, phaseIn, phaseOut, recoveryAfterOut, recoveryIn, recoveryReplyOut, replyOut, startOut, transactionIn}
 use Rattle.pool_c.proofs.Reading.{phase-out-in, progress-out-in, work-out-in}
-use Rattle.pool_c.proofs.Fits.{Fits, Keeps, KeepsFits, call-fits}
+use Rattle.pool_c.proofs.Fits.{Fits, Keeps, KeepsFits, begin-fits, call-fits}
 
 -- ---- the pool alone
 
 pub changed-out : (x : Outcome) {r : ℕ} (q : List ℕ) {y : Changed} → r ≡ valueOf (Pool.answerOf x) → Pool.changed x q ≡ y → (r, q) ≡ changedOut y
 changed-out x q e h = ap (λ (n : ℕ). (n, q)) e ∙ ap changedOut h
+
+-- ---- a transaction begun: x is what the public call hands back
+
+module _ (p : List ℕ) (x : PublicReply.Reply) (h : startOf x ≡ transactionStart p) where
+  pub begin-after-fits : Fits64 (phaseOut (phaseOf (x .transaction .txn .phase)))
+  begin-after-fits = subst (λ (z : TransactionStart). Fits64 (phaseOut (z .txn .phase))) (sym h) (begin-fits p)
+
+  pub begin-after-out : {r : Reply} → r ≡ replyOut (answerOf (x .answer)) (transactionOf (x .transaction)) → r ≡ startOut (transactionStart p)
+  begin-after-out e = e ∙ ap startOut h
 
 -- ---- a transaction: f is the definition, d the transaction decoded from t, x what the public call hands back
 

@@ -11,11 +11,13 @@ use lib.ListN.{length}
 use borrow.Author.Tests.{leb-false, ltb-false}
 use Rattle.rules.specs.Words.{word}
 use Rattle.rules.specs.Shape.{Shape, entryLimit, logA, logB}
-use Rattle.rules.specs.Header.{openTests, shapeIn}
-use Rattle.rules.specs.Staging.{Phase, closed, commitLength, committing, impossible, live, pastCommit}
+use Rattle.rules.specs.Test.{first}
+use Rattle.rules.specs.Header.{idIn, openTests, shapeIn}
+use Rattle.rules.specs.Seals.{readTests}
+use Rattle.rules.specs.Staging.{Phase, closed, commitLength, committing, fresh, impossible, live, pastCommit}
 use Rattle.rules.specs.Answer.{After, Given, conclude}
 use Rattle.rules.specs.Plan.{Call}
-use Rattle.rules.specs.Calls.{call, recordTests, staged}
+use Rattle.rules.specs.Calls.{call, concludeStart, recordTests, staged, transactionStart}
 use Rattle.rules.proofs.Bool.{or-false, split}
 use Rattle.rules.proofs.Test.{first-passed, passed-left, passed-right}
 use Rattle.powercut.specs.Log.{countIn, valid}
@@ -36,6 +38,14 @@ conclude-fits : (g : Given) (o : Option ℕ) (x : After) → Fits64 (phaseOut (g
 unfolding conclude
 conclude-fits g none x h k = k refl
 conclude-fits g (some n) x h k = h
+
+pub begin-fits : (p : List ℕ) → Fits64 (phaseOut (transactionStart p .txn .phase))
+unfolding transactionStart
+begin-fits p = go (first (readTests p))
+  where
+    go : (o : Option ℕ) → Fits64 (phaseOut (concludeStart o (fresh (idIn p)) .txn .phase))
+    go none = unfold concludeStart in omega arith
+    go (some n) = unfold concludeStart in omega arith
 
 pub call-fits : (k : Call) → Keeps (λ (g : Given). call g k)
 unfolding call staged
@@ -59,12 +69,12 @@ place-few n (committing k) l e = few n l (leb-false (commitLength n) k e)
     few zero l h = unfold commitLength in omega arith
     few (suc n) l h = unfold commitLength in omega arith
 
-possible-few : (sh : Shape) (g : Given) → impossible sh (g .staging) (g .txn) ≡ false → placeIn (g .txn .phase) < 771
+possible-few : (sh : Shape) (st : List ℕ) (n : ℕ) (f : Phase) → impossible sh st n f ≡ false → placeIn f < 771
 unfolding impossible
-possible-few sh g e =
-    let a = or-false (ltb entryLimit (g .txn .count)) _ e in
-    let b = or-false (pastCommit (g .txn .count) (g .txn .phase)) _ (a .1) in
-    place-few (g .txn .count) (g .txn .phase) (ltb-false entryLimit (g .txn .count) (a .0)) (b .0)
+possible-few sh st n f e =
+    let a = or-false (ltb entryLimit n) _ e in
+    let b = or-false (pastCommit n f) _ (a .1) in
+    place-few n f (ltb-false entryLimit n (a .0)) (b .0)
 
 next-fits : (k n : ℕ) → k < 771 → Fits64 (phaseOut (nextPhase k n))
 unfolding nextPhase
@@ -74,7 +84,7 @@ pub step-fits : Keeps commitStep
 unfolding commitStep commitTests recordTests
 step-fits g h = conclude-fits g _ _ h (λ e.
     let p = passed-right (openTests (g .pool)) _ (passed-left (recordTests g) _ (first-passed _ e)) in
-    next-fits (placeIn (g .txn .phase)) (length (commitList g)) (possible-few (shapeIn (g .pool)) g (p .1 .0)))
+    next-fits (placeIn (g .txn .phase)) (length (commitList g)) (possible-few (shapeIn (g .pool)) (g .staging) (g .txn .count) (g .txn .phase) (p .1 .0)))
 
 more-fits : (m : ℕ) (x : After) → Fits64 (phaseOut (x .left .txn .phase)) → Fits64 (phaseOut (commitMore m x .left .txn .phase))
 unfolding commitMore

@@ -5,6 +5,7 @@ use mathlib.Core.List.{List}
 use Rattle.rules.specs.Staging as Staging
 use Rattle.rules.specs.Staging.{Phase, closed, committing, live}
 use Rattle.rules.specs.Answer.{After, Answer, Changed, Given}
+use Rattle.rules.specs.Calls.{TransactionStart}
 use Rattle.rules.specs.Look as Looking
 use Rattle.rules.specs.Scrub as Scrubbing
 use Rattle.powercut.specs.Log.{Log, fromA, fromB}
@@ -50,10 +51,10 @@ phaseOut closed = 1
 phaseOut (committing k) = k + 2
 
 abbrev pub transactionIn : Transaction → Staging.Transaction
-transactionIn t = record { count = t .count; phase = phaseIn (t .phase) }
+transactionIn t = record { id = t .id; count = t .count; phase = phaseIn (t .phase) }
 
 abbrev pub transactionOut : Staging.Transaction → Transaction
-transactionOut t = record { count = t .count; phase = phaseOut (t .phase) }
+transactionOut t = record { id = t .id; count = t .count; phase = phaseOut (t .phase) }
 
 -- What a call is given: the transaction, and the bytes of pool and staging.
 abbrev pub givenIn : Transaction → List ℕ → List ℕ → Given
@@ -62,6 +63,10 @@ givenIn t pool staging = record { pool = pool; staging = staging; txn = transact
 -- What it hands back: the reply, and the bytes of pool and staging.
 abbrev pub replyOut : Answer → Staging.Transaction → Reply
 replyOut a t = record { kind = kindOf a; value = valueOf a; transaction = transactionOut t }
+
+-- What beginning hands back.
+abbrev pub startOut : TransactionStart → Reply
+startOut x = replyOut (x .answer) (x .txn)
 
 abbrev pub afterOut : After → Reply × List ℕ × List ℕ
 afterOut x = (replyOut (x .answer) (x .left .txn), x .left .pool, x .left .staging)
@@ -95,10 +100,10 @@ progressOut finished = 0
 progressOut (recovering k) = k + 1
 
 abbrev pub recoveryIn : Recovery → Recovering.Recovery
-recoveryIn r = record { work = workIn (r .work); phase = progressIn (r .phase) }
+recoveryIn r = record { id = r .id; work = workIn (r .work); phase = progressIn (r .phase) }
 
 abbrev pub recoveryOut : Recovering.Recovery → Recovery
-recoveryOut r = record { work = workOut (r .work); phase = progressOut (r .phase) }
+recoveryOut r = record { id = r .id; work = workOut (r .work); phase = progressOut (r .phase) }
 
 -- What a call hands back: the reply, and the pool's bytes.
 abbrev pub recoveryReplyOut : Answer → Recovering.Recovery → RecoveryReply

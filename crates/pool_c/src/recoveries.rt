@@ -9,10 +9,11 @@ use answers::value;
 use recovery::Progress;
 use recovery::Remedy;
 
-// What is to be done: 0 nothing, 1 clear both seals, 2 neither log is valid, 2n + 3 replay log A with n entries, 2n + 4 log B; and the phase:
+// The id of its pool. What is to be done: 0 nothing, 1 clear both seals, 2 neither log is valid, 2n + 3 replay log A with n entries, 2n + 4 log B; and the phase:
 // 0 finished, k + 1 after k steps.
 #[repr(C)]
 pub struct Recovery {
+    pub id: u64,
     pub work: usize,
     pub phase: usize,
 }
@@ -86,7 +87,11 @@ fn decoded(r: Recovery) -> recovery::Recovery
 {
     let work = work_in(r.work);
     let phase = progress_in(r.phase);
-    recovery::Recovery { work, phase }
+    recovery::Recovery {
+        id: r.id,
+        work,
+        phase,
+    }
 }
 
 // The reply that goes out.
@@ -102,6 +107,7 @@ fn encoded(r: recovery::Reply) -> RecoveryReply
         kind: kind(answer),
         value: value(answer),
         recovery: Recovery {
+            id: handed.id,
             work: work_out(work),
             phase: progress_out(phase),
         },

@@ -1,21 +1,21 @@
 // The calls on a transaction.
 ghost use mathlib.Core.Path.{_≡_};
-ghost use Rattle.rules.specs.Staging.{fresh};
 ghost use Rattle.rules.specs.Plan.{allocate as Allocate, release, write as Write};
-ghost use Rattle.rules.specs.Calls.{call};
+ghost use Rattle.rules.specs.Calls.{call, transactionStart};
 ghost use Rattle.powercut.specs.Commit.{commitOn, commitStart, commitStep};
 ghost use Rattle.answers.specs.Meaning.{answerOf};
 ghost use Rattle.record.specs.Meaning.{phaseOf};
 ghost use Rattle.transaction.specs.Meaning.{transactionOf};
-ghost use Rattle.pool_c.specs.Meaning.{afterOut, Fits64, givenIn, phaseIn, phaseOut, replyOut, transactionIn, transactionOut};
+ghost use Rattle.pool_c.specs.Meaning.{afterOut, Fits64, givenIn, phaseIn, phaseOut, replyOut, startOut, transactionIn};
 use answers::kind;
 use answers::value;
 use record::Phase;
 use record::Record;
 
-// The entries staged, and the phase: 0 open, 1 closed, k + 2 after k steps of the commit.
+// The id of its pool, the entries staged, and the phase: 0 open, 1 closed, k + 2 after k steps of the commit.
 #[repr(C)]
 pub struct Transaction {
+    pub id: u64,
     pub count: usize,
     pub phase: usize,
 }
@@ -59,6 +59,7 @@ fn decoded(t: Transaction) -> transaction::Transaction
 {
     let phase = phase_in(t.phase);
     let txn = Record {
+        id: t.id,
         count: t.count,
         phase,
     };
@@ -78,18 +79,19 @@ fn encoded(r: transaction::Reply) -> Reply
         kind: kind(answer),
         value: value(answer),
         transaction: Transaction {
+            id: txn.id,
             count: txn.count,
             phase: phase_out(phase),
         },
     }
 }
 
-// A fresh transaction: open, without entries.
+// Begins a transaction on this pool: open, without entries.
 #[no_mangle]
-pub extern "C" fn pool_begin() -> Transaction
-    ensures { λ r. ⌜ r ≡ transactionOut fresh ⌝ }
+pub extern "C" fn pool_begin(pool: &[u8]) -> Reply
+    ensures { λ r. ⌜ r ≡ startOut (transactionStart (now (pool .entry))) ⌝ }
 {
-    Transaction { count: 0, phase: 0 }
+    encoded(transaction::Transaction::begin(pool))
 }
 
 // Allocates an object with this tag and body.

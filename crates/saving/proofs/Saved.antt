@@ -8,10 +8,9 @@ use lib.ListN.{length}
 use borrow.Author.Tests.{ltb-false}
 use Rattle.rules.specs.Shape.{stagingSize}
 use Rattle.rules.specs.Header.{openTests}
-use Rattle.rules.specs.Staging.{Transaction, fresh}
 use Rattle.rules.specs.Answer.{After, Answer, Given, address, isRefused}
 use Rattle.rules.specs.Plan.{Call, allocate, plan}
-use Rattle.rules.specs.Calls.{Typed, begun, call, callTests, calls, recordTests}
+use Rattle.rules.specs.Calls.{TransactionStart, Typed, begun, call, callTests, calls, recordTests, transactionStart}
 use Rattle.rules.specs.NewBook.{newBook, newBooks, onAddress}
 use Rattle.rules.specs.Sound.{Sound, bookOf}
 use Rattle.rules.proofs.Bool.{split}
@@ -20,30 +19,44 @@ use Rattle.rules.proofs.Transaction.{call-refused}
 use Rattle.powercut.specs.WholeRun.{made}
 use Rattle.powercut.specs.Claim.{new}
 use Rattle.answers.specs.Meaning.{answerOf}
-use Rattle.transaction.specs.declared.Transaction as Code
 use Rattle.transaction.specs.declared.Reply.{Reply}
-use Rattle.transaction.specs.Meaning.{afterOf, givenOf, transactionOf}
+use Rattle.transaction.specs.Meaning.{afterOf, givenOf, startOf}
 use Rattle.saving.specs.Meaning.{outcomeOf}
 use Rattle.saving.specs.Saving.{Outcome, Saves, Told, committed, isDone, saveOn, saved, savedAs}
 use Rattle.saving.proofs.Uncut.{Ended, commit-ends}
 use Rattle.powercut.proofs.RunMatches.{accepted-none, concluded}
+use Rattle.powercut.proofs.PowerCut.{power-cut}
 use Rattle.powercut.proofs.Refusals.{refused-is}
 
--- ---- what allocate hands back in a fresh transaction: r, with staging memory st, and whether it is a refusal
+-- ---- what the beginning hands back, and allocate then: r, with staging memory st; and whether it is a refusal
+
+pub record Begun (pool : List ℕ) (tag : ℕ) (body : List ℕ) (r : Reply) (b : Bool) : Type 0 where
+  pub typed : Typed (allocate tag body)
+  pub exact : startOf r ≡ transactionStart pool
+  pub told : b ≡ isRefused (answerOf (r .answer))
 
 pub record Allocated (pool staging : List ℕ) (tag : ℕ) (body : List ℕ) (r : Reply) (st : List ℕ) (b : Bool) : Type 0 where
   pub typed : Typed (allocate tag body)
+  pub begins : isRefused (transactionStart pool .answer) ≡ false
   pub exact : afterOf r pool st ≡ call (begun pool staging) (allocate tag body)
   pub told : b ≡ isRefused (answerOf (r .answer))
 
-pub allocated : {pool staging body st : List ℕ} {tag : ℕ} (t : Code.Transaction) {r : Reply} {b : Bool} → Typed (allocate tag body) → transactionOf t ≡ fresh
-    → afterOf r pool st ≡ call (givenOf t pool staging) (allocate tag body) → b ≡ isRefused (answerOf (r .answer)) → Allocated pool staging tag body r st b
+pub begun-told : {pool body : List ℕ} {tag : ℕ} {r : Reply} {b c : Bool} → Begun pool tag body r b → b ≡ c → isRefused (transactionStart pool .answer) ≡ c
+begun-told g h = ap (λ (s : TransactionStart). isRefused (s .answer)) (sym (g .exact)) ∙ sym (g .told) ∙ h
+
+pub allocated : {pool staging body st : List ℕ} {tag : ℕ} {t r : Reply} {b c : Bool} → Begun pool tag body t b → b ≡ false
+    → afterOf r pool st ≡ call (givenOf (t .transaction) pool staging) (allocate tag body) → c ≡ isRefused (answerOf (r .answer)) → Allocated pool staging tag body r st c
 unfolding begun
-allocated {pool} {staging} {body} {st} {tag} t typed e q h = record {
-  typed = typed;
-  exact = q ∙ ap (λ (n : Transaction). call (record { pool = pool; staging = staging; txn = n }) (allocate tag body)) e;
+allocated {pool} {staging} {body} {st} {tag} g f q h = record {
+  typed = g .typed;
+  begins = begun-told g f;
+  exact = q ∙ ap (λ (s : TransactionStart). call (record { pool = pool; staging = staging; txn = s .txn }) (allocate tag body)) (g .exact);
   told = h;
 }
+
+-- on a sound pool the beginning is taken
+pub sound-begins : (p : List ℕ) → Sound p → isRefused (transactionStart p .answer) ≡ false
+sound-begins p s = power-cut p [] [] s tt .begins
 
 -- ---- what an answer tells
 
@@ -100,30 +113,35 @@ module _ (pool staging : List ℕ) (tag : ℕ) (body : List ℕ) where
 
     saved-told : (saved pool staging tag body .answer ≡ x .answer) × Told pool tag body (saved pool staging tag body .pool) (saved pool staging tag body .answer)
     unfolding saved saveOn
-    saved-told = split (isRefused (x .answer)) (λ r. rw r (refl, told-first r)) (λ f. rw f (told-last f))
+    saved-told = rw (sound-begins pool sound) (split (isRefused (x .answer)) (λ r. rw r (refl, told-first r)) (λ f. rw f (told-last f)))
 
   -- ---- the ways out
 
-  saves : (z : After) {o : Outcome} → Typed (allocate tag body) → z ≡ x → o ≡ saveOn z → Saves pool staging tag body o
+  saves : {o : Outcome} → Typed (allocate tag body) → o ≡ saved pool staging tag body → Saves pool staging tag body o
+  saves typed p = record {
+    exact = p;
+    answers = λ sound. ap (λ (o : Outcome). o .answer) p ∙ saved-told sound typed .0;
+    told = λ sound. subst (λ (o : Outcome). Told pool tag body (o .pool) (o .answer)) (sym p) (saved-told sound typed .1);
+  }
+
+  pub save-unbegun : {r : Reply} {b : Bool} → Begun pool tag body r b → b ≡ true → Saves pool staging tag body (outcomeOf (r .answer) pool staging)
+  unfolding saved begun
+  save-unbegun g h = saves (g .typed) (rw (begun-told g h) (ap (λ (s : TransactionStart). record { answer = s .answer; pool = pool; staging = staging }) (g .exact)))
+
+  saves-on : {r : Reply} {st : List ℕ} {b : Bool} {o : Outcome} → Allocated pool staging tag body r st b → o ≡ saveOn (afterOf r pool st) → Saves pool staging tag body o
   unfolding saved
-  saves z {o} typed e q =
-      let p : o ≡ saved pool staging tag body = q ∙ ap saveOn e in
-      record {
-        exact = p;
-        answers = λ sound. ap (λ (o : Outcome). o .answer) p ∙ saved-told sound typed .0;
-        told = λ sound. subst (λ (o : Outcome). Told pool tag body (o .pool) (o .answer)) (sym p) (saved-told sound typed .1);
-      }
+  saves-on a q = saves (a .typed) (rw (a .begins) (q ∙ ap saveOn (a .exact)))
 
   pub save-refused : {r : Reply} {st : List ℕ} {b : Bool} → Allocated pool staging tag body r st b → b ≡ true → Saves pool staging tag body (outcomeOf (r .answer) pool st)
   unfolding saveOn
-  save-refused a h = saves _ (a .typed) (a .exact) (rw (sym (a .told) ∙ h))
+  save-refused a h = saves-on a (rw (sym (a .told) ∙ h))
 
   -- l is what the commit hands back, with the pool p
   module _ {r : Reply} {st p : List ℕ} {b d : Bool} (a : Allocated pool staging tag body r st b) (f : b ≡ false) (l : Reply) (c : afterOf l p st ≡ committed (givenOf (r .transaction) pool st)) (e : d ≡ isDone (answerOf (l .answer))) where
     pub save-done : d ≡ true → Saves pool staging tag body (outcomeOf (r .answer) p st)
     unfolding saveOn savedAs
-    save-done h = saves _ (a .typed) (a .exact) (rw (sym (a .told) ∙ f, sym c, sym e ∙ h))
+    save-done h = saves-on a (rw (sym (a .told) ∙ f, sym c, sym e ∙ h))
 
     pub save-else : d ≡ false → Saves pool staging tag body (outcomeOf (l .answer) p st)
     unfolding saveOn savedAs
-    save-else h = saves _ (a .typed) (a .exact) (rw (sym (a .told) ∙ f, sym c, sym e ∙ h))
+    save-else h = saves-on a (rw (sym (a .told) ∙ f, sym c, sym e ∙ h))

@@ -8,7 +8,7 @@ use Rattle.rules.specs.Header.{shapeIn}
 use Rattle.rules.specs.Book.{Listed, enter, strike}
 use Rattle.rules.specs.Answer.{After, Answer, Given, address, isRefused, taken}
 use Rattle.rules.specs.Plan.{Call, allocate, plan, release}
-use Rattle.rules.specs.Calls.{Typed, begun, call, calls}
+use Rattle.rules.specs.Calls.{TransactionStart, Typed, begun, call, calls}
 use Rattle.rules.specs.NewBook.{newBook, newBooks, onAddress, onTaken}
 use Rattle.rules.specs.Sound.{Sound, bookOf}
 use Rattle.rules.proofs.Bool.{split}
@@ -20,7 +20,7 @@ use Rattle.answers.specs.Meaning.{answerOf}
 use Rattle.transaction.specs.declared.Reply.{Reply}
 use Rattle.transaction.specs.Meaning.{afterOf, givenOf}
 use Rattle.saving.specs.TakenBack.{TakesBack, addressIn, both, freeOn, takenBack}
-use Rattle.saving.proofs.Saved.{Allocated, allocate-address, made-new}
+use Rattle.saving.proofs.Saved.{Allocated, Begun, allocate-address, begun-told, made-new, sound-begins}
 use Rattle.saving.proofs.Ascending.{Ascends, held-ascends, strike-entered}
 
 free-taken : (g : Given) (a : ℕ) → isRefused (call g (release a) .answer) ≡ false → call g (release a) .answer ≡ taken
@@ -80,19 +80,29 @@ module _ (pool staging : List ℕ) (tag : ℕ) (body : List ℕ) where
 
   -- ---- the ways out
 
-  takes : Typed (allocate tag body) → {w : After} → w ≡ freeOn x → TakesBack pool staging tag body w
-  unfolding takenBack
-  takes typed {w} e = record {
+  takes : {w : After} → Typed (allocate tag body) → w ≡ takenBack pool staging tag body → TakesBack pool staging tag body w
+  takes {w} typed e = record {
     exact = e;
-    same = λ sound f. subst (λ (y : After). (a : ℕ) × (y .left ≡ made pool staging (both a tag body) .left) × (new pool staging (both a tag body) ≡ bookOf pool)) (sym e) (back-same sound typed (subst (λ (y : After). isRefused (y .answer) ≡ false) e f));
+    same = λ sound f.
+        let p : w ≡ freeOn x = e ∙ (unfold takenBack in (rw (sound-begins pool sound))) in
+        subst (λ (y : After). (a : ℕ) × (y .left ≡ made pool staging (both a tag body) .left) × (new pool staging (both a tag body) ≡ bookOf pool)) (sym p) (back-same sound typed (subst (λ (y : After). isRefused (y .answer) ≡ false) p f));
   }
 
+  pub back-unbegun : {r : Reply} {b : Bool} → Begun pool tag body r b → b ≡ true → TakesBack pool staging tag body (afterOf r pool staging)
+  unfolding takenBack begun
+  back-unbegun g h =
+      takes (g .typed) (rw (begun-told g h) (ap (λ (s : TransactionStart). record { answer = s .answer; left = record { pool = pool; staging = staging; txn = s .txn } }) (g .exact)))
+
   module _ {r : Reply} {st : List ℕ} {b : Bool} (a : Allocated pool staging tag body r st b) where
+    takes-on : {w : After} → w ≡ freeOn (afterOf r pool st) → TakesBack pool staging tag body w
+    unfolding takenBack
+    takes-on q = takes (a .typed) (rw (a .begins) (q ∙ ap freeOn (a .exact)))
+
     pub back-refused : b ≡ true → TakesBack pool staging tag body (afterOf r pool st)
-    back-refused h = takes (a .typed) (sym (on-refused (afterOf r pool st) (sym (a .told) ∙ h)) ∙ ap freeOn (a .exact))
+    back-refused h = takes-on (sym (on-refused (afterOf r pool st) (sym (a .told) ∙ h)))
 
     -- free of the address n hands l back, with staging memory st′
     pub back-freed : b ≡ false → {n : ℕ} (l : Reply) {st′ : List ℕ} → n ≡ addressIn (answerOf (r .answer)) → afterOf l pool st′ ≡ call (givenOf (r .transaction) pool st) (release n)
         → TakesBack pool staging tag body (afterOf l pool st′)
     back-freed h l i p =
-        takes (a .typed) (p ∙ ap (λ (m : ℕ). call (givenOf (r .transaction) pool st) (release m)) i ∙ sym (on-allocated (afterOf r pool st) (sym (a .told) ∙ h)) ∙ ap freeOn (a .exact))
+        takes-on (p ∙ ap (λ (m : ℕ). call (givenOf (r .transaction) pool st) (release m)) i ∙ sym (on-allocated (afterOf r pool st) (sym (a .told) ∙ h)))

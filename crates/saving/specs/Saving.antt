@@ -7,7 +7,7 @@ use mathlib.Core.List.{List}
 use Rattle.rules.specs.Book.{enter}
 use Rattle.rules.specs.Sound.{Sound, bookOf}
 use Rattle.rules.specs.Plan.{allocate}
-use Rattle.rules.specs.Calls.{begun, call}
+use Rattle.rules.specs.Calls.{begun, call, transactionStart}
 use Rattle.rules.specs.Answer.{After, Answer, Given, address, done, isRefused, passed, refused, started, stored, taken}
 use Rattle.powercut.specs.Commit.{commitOn, commitStart}
 
@@ -33,7 +33,7 @@ callsFrom f (suc n) x = cond (isEnd (x .answer)) x (callsFrom f n (f (x .left)))
 unfoldable pub committed : Given → After
 committed g = callsFrom commitOn 5 (commitStart g)
 
--- ---- An object saved: allocated in a fresh transaction, and committed.
+-- ---- An object saved: a transaction begun, the object allocated in it, and committed.
 
 -- What a save answers, and the pool and staging memory then.
 pub record Outcome : Type 0 where
@@ -52,8 +52,11 @@ savedAs a y = outcome (cond (isDone (y .answer)) a (y .answer)) (y .left)
 unfoldable pub saveOn : After → Outcome
 saveOn x = cond (isRefused (x .answer)) (outcome (x .answer) (x .left)) (savedAs (x .answer) (committed (x .left)))
 
+-- A refused beginning is the answer; else the object is allocated, and committed.
 unfoldable pub saved : List ℕ → List ℕ → ℕ → List ℕ → Outcome
-saved pool staging tag body = saveOn (call (begun pool staging) (allocate tag body))
+saved pool staging tag body =
+    cond (isRefused (transactionStart pool .answer)) (outcome (transactionStart pool .answer) (begun pool staging))
+    (saveOn (call (begun pool staging) (allocate tag body)))
 
 module _ (old : List ℕ) (tag : ℕ) (body : List ℕ) (new : List ℕ) where
   -- What an answer tells of a pool that was sound: it is sound, and its book has just this object more; or it is as it was.

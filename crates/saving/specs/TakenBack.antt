@@ -5,7 +5,7 @@ use mathlib.Core.Bool.{false, cond}
 use mathlib.Core.List.{List, [], _∷_}
 use Rattle.rules.specs.Answer.{After, Answer, address, done, isRefused, passed, refused, started, stored, taken}
 use Rattle.rules.specs.Plan.{Call, allocate, release}
-use Rattle.rules.specs.Calls.{begun, call}
+use Rattle.rules.specs.Calls.{begun, call, transactionStart}
 use Rattle.rules.specs.Sound.{Sound, bookOf}
 use Rattle.powercut.specs.WholeRun.{made}
 use Rattle.powercut.specs.Claim.{new}
@@ -24,8 +24,11 @@ addressIn (refused n) = 0
 unfoldable pub freeOn : After → After
 freeOn x = cond (isRefused (x .answer)) x (call (x .left) (release (addressIn (x .answer))))
 
+-- A refused beginning is the answer; else the object is allocated, and freed.
 unfoldable pub takenBack : List ℕ → List ℕ → ℕ → List ℕ → After
-takenBack pool staging tag body = freeOn (call (begun pool staging) (allocate tag body))
+takenBack pool staging tag body =
+    cond (isRefused (transactionStart pool .answer)) (record { answer = transactionStart pool .answer; left = begun pool staging })
+    (freeOn (call (begun pool staging) (allocate tag body)))
 
 -- The two calls.
 abbrev pub both : ℕ → ℕ → List ℕ → List Call

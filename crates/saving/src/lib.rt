@@ -75,11 +75,16 @@ pub fn run(txn: Transaction, pool: &mut [u8], staging: &[u8]) -> Reply
     r
 }
 
-// Saves an object: allocates it in a fresh transaction, and commits. Its address, or a refusal.
+// Saves an object: begins a transaction, allocates the object in it, and commits. Its address, or a refusal.
 pub fn save(pool: &mut [u8], staging: &mut [u8], tag: u32, body: &[u8]) -> Answer
     ensures { λ r. ⌜ Saves (now (pool .entry)) (now (staging .entry)) tag (now (body .entry)) (outcomeOf r (now (pool .exit)) (now (staging .exit))) ⌝ }
 {
-    let fresh = Transaction::new();
+    let begun = Transaction::begin(pool);
+    let beginning = begun.answer;
+    if is_refused(beginning) {
+        return beginning;
+    }
+    let fresh = begun.transaction;
     let first = fresh.allocate(pool, staging, tag, body);
     let answer = first.answer;
     if is_refused(answer) {
@@ -108,7 +113,12 @@ fn address_in(answer: Answer) -> usize
 pub fn take_back(pool: &[u8], staging: &mut [u8], tag: u32, body: &[u8]) -> Reply
     ensures { λ r. ⌜ TakesBack (now (pool .entry)) (now (staging .entry)) tag (now (body .entry)) (afterOf r (now (pool .entry)) (now (staging .exit))) ⌝ }
 {
-    let fresh = Transaction::new();
+    let begun = Transaction::begin(pool);
+    let beginning = begun.answer;
+    if is_refused(beginning) {
+        return begun;
+    }
+    let fresh = begun.transaction;
     let first = fresh.allocate(pool, staging, tag, body);
     let answer = first.answer;
     if is_refused(answer) {

@@ -1,25 +1,40 @@
 -- `saving::take_back` meets its contract. Assumes nothing.
 use native.Mathlib.Omega.{arith}
-use Rattle.saving.proofs.Saved.{Allocated, allocated}
-use Rattle.saving.proofs.TakenBack.{back-freed, back-refused}
+use Rattle.saving.proofs.Saved.{Allocated, Begun, allocated}
+use Rattle.saving.proofs.TakenBack.{back-freed, back-refused, back-unbegun}
 use borrow.Author.Needs.{needs}
 use Rattle.saving.proofs.take_back.Statement.{statement}
 use Rattle.saving.proofs.take_back.Tie as tie
 
-first : (c : tie.After-is-refused) → let s = c .before .before .before .before .before .before .before .before .before .args in let a = c .before .before .before .allocate in
-    Allocated (s .pool .now) (s .staging .now) (s .tag) (s .body .now) (a .result) (a .last .1 .1 .0) (c .is-refused .result)
+begins : (c : tie.After-is-refused) → let s = c .before .before .before .before .before .args in
+    Begun (s .pool .now) (s .tag) (s .body .now) (c .before .begin .result) (c .is-refused .result)
+begins c =
+    let k = c .before .before in
+    record {
+      typed = (omega (arith, k .before .before .before .fits .tag), λ i. omega (arith, k .shared-slice-known2 .given i));
+      exact = c .before .begin .ensures;
+      told = c .is-refused .ensures;
+    }
+
+first : (c : tie.After-is-refused2) →
+    let s = c .before .before .before .before .before .before .before .before .before .before .before .before .args in
+    let a = c .before .before .before .allocate in
+    Allocated (s .pool .now) (s .staging .now) (s .tag) (s .body .now) (a .result) (a .last .1 .1 .0) (c .is-refused2 .result)
 first c =
-    let n = c .before .before .before .before .before in
-    allocated (n .new .result) (omega (arith, n .before .before .before .before .fits .tag), λ i. omega (arith, n .before .shared-slice-known2 .given i)) (n .new .ensures) (c .before .before .before .allocate .ensures) (c .is-refused .ensures)
+    let f = c .before .before .before .before .before .before in
+    allocated (begins (f .before)) (f .if1 .left) (c .before .before .before .allocate .ensures) (c .is-refused2 .ensures)
 
 returns : tie.Need-returns
-returns c = back-refused _ _ _ _ (first (c .before)) (c .if1 .taken)
+returns c = back-unbegun _ _ _ _ (begins (c .before)) (c .if1 .taken)
 
 returns-2 : tie.Need-returns-2
-returns-2 c =
+returns-2 c = back-refused _ _ _ _ (first (c .before)) (c .if2 .taken)
+
+returns-3 : tie.Need-returns-3
+returns-3 c =
     let r = c .before .before in
     let f = r .before .before .before .before in
-    back-freed _ _ _ _ (first (f .before)) (f .if1 .left) (r .free .result) (r .before .address-in .ensures) (r .free .ensures)
+    back-freed _ _ _ _ (first (f .before)) (f .if2 .left) (r .free .result) (r .before .address-in .ensures) (r .free .ensures)
 
 pub take-back-spec : {M : Type 1} → statement M
 take-back-spec =
@@ -27,10 +42,12 @@ take-back-spec =
     (tie.spec
     (λ c κs. search needs)
     (λ c κs. search needs)
-    (λ c κs. search needs)
-    (λ c. search needs)
     returns
     (λ c κs. search needs)
     (λ c κs. search needs)
     (λ c. search needs)
-    returns-2)
+    returns-2
+    (λ c κs. search needs)
+    (λ c κs. search needs)
+    (λ c. search needs)
+    returns-3)

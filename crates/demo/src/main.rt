@@ -87,7 +87,9 @@ fn cuts(cut: &mut [u8], base: &[u8], pool: &[u8], places: &[usize], n: usize) ->
 
 // Stages the object and starts its commit.
 fn begin(pool: &[u8], staging: &mut [u8]) -> State {
-    let r = Transaction::new().allocate(pool, staging, 5, &BODY);
+    let r = Transaction::begin(pool);
+    let t = r.transaction;
+    let r = t.allocate(pool, staging, 5, &BODY);
     let t = r.transaction;
     let r = t.commit(pool, staging);
     let transaction = r.transaction;

@@ -12,7 +12,11 @@ fn set(s: &mut [u8], at: usize, b: u8) {
 
 // A step and an allocate with the record given.
 fn forged(name: &[u8], p: &mut [u8], s: &mut [u8], count: usize, phase: Phase) {
-    let txn = Record { count, phase };
+    let txn = Record {
+        id: 1,
+        count,
+        phase,
+    };
     let t = Transaction { txn };
     examples::calls::step(name, t, p, s);
     examples::calls::allocate(b"  allocate with it: ", t, p, s, 5, b"a");

@@ -3,7 +3,6 @@
 use examples::calls::look;
 use examples::report::answer;
 use recovery::Recovery;
-use transaction::Transaction;
 
 fn set(s: &mut [u8], at: usize, b: u8) {
     if at < s.len() {
@@ -13,14 +12,8 @@ fn set(s: &mut [u8], at: usize, b: u8) {
 
 // Cut after 42 steps: the entries and seal A.
 fn cuts(p: &mut [u8], s: &mut [u8]) {
-    let t = examples::calls::allocate(
-        b"allocate tag 5, body 61: ",
-        Transaction::new(),
-        p,
-        s,
-        5,
-        b"a",
-    );
+    let t = examples::calls::begin(p);
+    let t = examples::calls::allocate(b"allocate tag 5, body 61: ", t, p, s, 5, b"a");
     examples::calls::commit(b"  cut with seal A alone: ", t, p, s, 42);
     look(p);
 }

@@ -13,12 +13,12 @@ fn set(s: &mut [u8], at: usize, b: u8) {
 
 // A body of no bytes and of 497; staging of 2,031 bytes.
 fn limits(p: &[u8], s: &mut [u8], body: &[u8]) {
-    allocate(b"allocate no bytes: ", begin(), p, s, 5, b"");
-    allocate(b"allocate 497 bytes: ", begin(), p, s, 5, body);
+    allocate(b"allocate no bytes: ", begin(p), p, s, 5, b"");
+    allocate(b"allocate 497 bytes: ", begin(p), p, s, 5, body);
     if 2031 <= s.len() {
         allocate(
             b"staging of 2031 bytes: ",
-            begin(),
+            begin(p),
             p,
             &mut s[0..2031],
             5,
@@ -28,7 +28,7 @@ fn limits(p: &[u8], s: &mut [u8], body: &[u8]) {
 }
 
 fn save(p: &mut [u8], s: &mut [u8], body: &[u8]) {
-    let t = allocate(b"allocate 496 bytes: ", begin(), p, s, 5, body);
+    let t = allocate(b"allocate 496 bytes: ", begin(p), p, s, 5, body);
     saving::run(t, p, s);
 }
 
@@ -37,42 +37,42 @@ fn full(p: &mut [u8], s: &mut [u8], body: &[u8]) {
     if 496 <= body.len() {
         save(p, s, &body[0..496]);
         save(p, s, &body[0..496]);
-        allocate(b"allocate in a full pool: ", begin(), p, s, 5, b"a");
+        allocate(b"allocate in a full pool: ", begin(p), p, s, 5, b"a");
     }
 }
 
 fn ranges(p: &[u8], s: &mut [u8]) {
-    write(b"write no bytes: ", begin(), p, s, 0, 0, b"");
-    write(b"write past the body: ", begin(), p, s, 0, 495, b"ab");
-    write(b"write its last bytes: ", begin(), p, s, 0, 494, b"ab");
+    write(b"write no bytes: ", begin(p), p, s, 0, 0, b"");
+    write(b"write past the body: ", begin(p), p, s, 0, 495, b"ab");
+    write(b"write its last bytes: ", begin(p), p, s, 0, 494, b"ab");
 }
 
 fn wrong_writes(p: &[u8], s: &mut [u8]) {
-    write(b"write at cell 16: ", begin(), p, s, 16, 0, b"a");
-    write(b"write at cell 1: ", begin(), p, s, 1, 0, b"a");
+    write(b"write at cell 16: ", begin(p), p, s, 16, 0, b"a");
+    write(b"write at cell 1: ", begin(p), p, s, 1, 0, b"a");
 }
 
 fn wrong_frees(p: &[u8], s: &mut [u8]) {
-    free(b"free at cell 16: ", begin(), p, s, 16);
-    free(b"free at cell 1: ", begin(), p, s, 1);
+    free(b"free at cell 16: ", begin(p), p, s, 16);
+    free(b"free at cell 1: ", begin(p), p, s, 1);
 }
 
-// The object at cell 8 damaged, then the zone broken at cell 0, then a seal set.
-fn damaged(p: &mut [u8], s: &mut [u8]) {
-    set(p, 5200, 1);
-    write(b"write over a damaged one: ", begin(), p, s, 8, 0, b"a");
-    free(b"free a damaged one: ", begin(), p, s, 8);
+// The object at cell 8 is damaged; then the zone is broken at cell 0; then a seal is set.
+fn damaged(p: &[u8], s: &mut [u8]) {
+    write(b"write over a damaged one: ", begin(p), p, s, 8, 0, b"a");
+    free(b"free a damaged one: ", begin(p), p, s, 8);
 }
 
-fn broken(p: &mut [u8], s: &mut [u8]) {
-    set(p, 4608, 3);
-    allocate(b"allocate in a broken zone: ", begin(), p, s, 5, b"a");
-    write(b"write in a broken zone: ", begin(), p, s, 8, 0, b"a");
+fn broken(p: &[u8], s: &mut [u8]) {
+    allocate(b"allocate in a broken zone: ", begin(p), p, s, 5, b"a");
+    write(b"write in a broken zone: ", begin(p), p, s, 8, 0, b"a");
 }
 
+// Begun before the seal is set: begin too is refused then.
 fn sealed(p: &mut [u8], s: &mut [u8]) {
+    let t = begin(p);
     set(p, 512, 1);
-    free(b"free with a seal set: ", begin(), p, s, 8);
+    free(b"free with a seal set: ", t, p, s, 8);
 }
 
 fn main() {
@@ -85,7 +85,9 @@ fn main() {
     ranges(&pool, &mut staging);
     wrong_writes(&pool, &mut staging);
     wrong_frees(&pool, &mut staging);
-    damaged(&mut pool, &mut staging);
-    broken(&mut pool, &mut staging);
+    set(&mut pool, 5200, 1);
+    damaged(&pool, &mut staging);
+    set(&mut pool, 4608, 3);
+    broken(&pool, &mut staging);
     sealed(&mut pool, &mut staging);
 }

@@ -9,19 +9,19 @@ use examples::calls::write;
 use transaction::Transaction;
 
 fn allocates(p: &mut [u8], s: &mut [u8]) {
-    let t = allocate(b"allocate tag 5, body 61: ", begin(), p, s, 5, b"a");
+    let t = allocate(b"allocate tag 5, body 61: ", begin(p), p, s, 5, b"a");
     commit(b"  commit: ", t, p, s, 771);
     look(p);
 }
 
 fn writes(p: &mut [u8], s: &mut [u8]) {
-    let t = write(b"write 62 over it: ", begin(), p, s, 0, 0, b"b");
+    let t = write(b"write 62 over it: ", begin(p), p, s, 0, 0, b"b");
     commit(b"  commit: ", t, p, s, 771);
     look(p);
 }
 
 fn frees(p: &mut [u8], s: &mut [u8]) {
-    let t = free(b"free it: ", begin(), p, s, 0);
+    let t = free(b"free it: ", begin(p), p, s, 0);
     commit(b"  commit: ", t, p, s, 771);
     look(p);
 }
@@ -29,7 +29,11 @@ fn frees(p: &mut [u8], s: &mut [u8]) {
 // Two objects, the second one with a body of `n` bytes: 432 touch 122 words, 433 touch 128.
 fn pair(name: &[u8], p: &mut [u8], s: &mut [u8], body: &[u8], n: usize) {
     pool::format(p, 2, 2, 1, 1);
-    let t = allocate(b"body 496: ", begin(), p, s, 6, body);
+    both(name, p, s, body, n);
+}
+
+fn both(name: &[u8], p: &mut [u8], s: &mut [u8], body: &[u8], n: usize) {
+    let t = allocate(b"body 496: ", begin(p), p, s, 6, body);
     if n <= body.len() {
         let t = allocate(name, t, p, s, 7, &body[0..n]);
         commit(b"  commit: ", t, p, s, 771);
@@ -38,7 +42,7 @@ fn pair(name: &[u8], p: &mut [u8], s: &mut [u8], body: &[u8], n: usize) {
 
 // Later calls see what earlier ones staged: the new object at cell 8 is written over, and the one at 0 freed and its cells taken.
 fn together(p: &mut [u8], s: &mut [u8]) {
-    let t = allocate(b"body 61 beside it: ", begin(), p, s, 5, b"a");
+    let t = allocate(b"body 61 beside it: ", begin(p), p, s, 5, b"a");
     let t = write(b"and 62 over it: ", t, p, s, 8, 0, b"b");
     let t = retaken(t, p, s);
     commit(b"  commit: ", t, p, s, 771);

@@ -12,9 +12,10 @@ fn say(name: &[u8], r: Reply) -> Transaction {
     t
 }
 
-// A fresh transaction.
-pub fn begin() -> Transaction {
-    Transaction::new()
+// A transaction begun on the pool; where that is refused, what begin handed back.
+pub fn begin(p: &[u8]) -> Transaction {
+    let r = Transaction::begin(p);
+    r.transaction
 }
 
 pub fn allocate(

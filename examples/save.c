@@ -91,10 +91,16 @@ static void recover(void)
     printf("recovered in %zu steps\n", reply.value);
 }
 
+/* A fresh transaction on the pool. */
+static pool_transaction begin(void)
+{
+    return taken("begin", pool_begin(pool, LENGTH));
+}
+
 /* A new object, in a transaction of its own. Answers its address. */
 static size_t save(uint32_t tag, const char *text)
 {
-    pool_reply reply = pool_allocate(pool_begin(), pool, LENGTH, staging, POOL_STAGING, tag, (const uint8_t *)text, strlen(text));
+    pool_reply reply = pool_allocate(begin(), pool, LENGTH, staging, POOL_STAGING, tag, (const uint8_t *)text, strlen(text));
     commit(taken("allocate", reply));
     return reply.value;
 }
@@ -102,7 +108,7 @@ static size_t save(uint32_t tag, const char *text)
 /* Other bytes for an object, in a transaction of its own, whose commit is cut after so many steps. */
 static void replace_until_cut(size_t address, const char *text, size_t steps)
 {
-    pool_reply reply = pool_write(pool_begin(), pool, LENGTH, staging, POOL_STAGING, address, 0, (const uint8_t *)text, strlen(text));
+    pool_reply reply = pool_write(begin(), pool, LENGTH, staging, POOL_STAGING, address, 0, (const uint8_t *)text, strlen(text));
     commit_until_cut(taken("write", reply), steps);
 }
 

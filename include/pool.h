@@ -9,19 +9,23 @@
  * aligned store of 8 bytes, which the memory keeps or loses whole.
  *
  * At every power-up: pool_recover, then pool_recover_advance until POOL_DONE; then pool_mend, which stores nothing if both headers are
- * valid, and a barrier; pool_scrub at leisure. A save: pool_begin; pool_allocate, pool_write, pool_free, as many as are to be kept or
- * lost together; pool_commit; then pool_commit_advance until POOL_DONE, which is five calls. After each POOL_BARRIER and POOL_DONE the
- * caller passes a barrier. It is passed when every store made into the pool so far is in the memory that keeps its bytes without power:
+ * valid, and a barrier; pool_scrub at leisure. A save: pool_begin on the pool; pool_allocate, pool_write, pool_free, as many as are to be
+ * kept or lost together; pool_commit; then pool_commit_advance until POOL_DONE, which is five calls. After each POOL_BARRIER and POOL_DONE
+ * the caller passes a barrier. It is passed when every store made into the pool so far is in the memory that keeps its bytes without power:
  * on a cached x86-64, clwb for each line stored to, then sfence. docs/DEVICE.md says more, docs/REFUSALS.md what to do when a call is
  * refused.
+ *
+ * A transaction or a recovery belongs to the pool that it was begun on, and holds that pool's id: on a pool with another id it is refused.
+ * Two pools with one id cannot be told from each other, so give each module an id of its own.
  *
  * The library needs memcpy and memset, has no data, runs at any address, and takes at most 1,152 bytes of stack. It uses the SSE2
  * registers, which interrupt code must save, and the 128 bytes below the stack pointer, which interrupt code must leave alone. Between
  * two calls nothing is kept but what the caller holds.
  *
  * A call that is refused changes nothing: no byte of the pool or of the staging memory, and it hands back the record that it was
- * given. If several refusals apply, the first is answered, in the order 1, 2 (under 512 bytes), 3, 4, 2 (length), 9, 10, 29, 21, 22, 6,
- * 8, 5, 23, 24, 25, 7, 26, 28, 27. Their names and meanings stand below.
+ * given. pool_begin and pool_recover are given none; if they are refused, they hand back one that no call takes. If several refusals apply,
+ * the first is answered, in the order 1, 2 (under 512 bytes), 3, 4, 2 (length), 9, 10, 11, 29, 21, 22, 6, 8, 5, 23, 24, 25, 7, 26, 28, 27.
+ * Their names and meanings stand below.
  */
 #ifndef POOL_H
 #define POOL_H
@@ -37,7 +41,7 @@ extern "C" {
 #endif
 
 /* The version of this interface: its records, names and numbers. */
-#define POOL_INTERFACE_VERSION 1
+#define POOL_INTERFACE_VERSION 2
 
 /* Bytes of staging memory that a transaction needs, bytes of the longest body, and entries of the longest transaction: distinct words. */
 #define POOL_STAGING 2032
@@ -72,6 +76,7 @@ enum {
     POOL_REFUSED_RECORD = 10,        /* transaction or recovery record impossible: count above 127, place past its list, a
                                         target outside data rows, unaligned or repeated, or, while recovery is storing data or
                                         parity, its log no longer valid with its count                                      */
+    POOL_REFUSED_POOL = 11,          /* the record was begun on a pool with another id                                      */
 
     POOL_REFUSED_SEALED = 21,    /* a seal is not zero (commit steps after the first, recovery and header mending excepted):
                                     recover first                                                                           */
@@ -94,15 +99,16 @@ enum {
 /*
  * Answers have three forms, each the least that its call needs. pool_format, pool_mend and pool_repair have nothing to tell but the
  * refusal: they answer its number, or 0. pool_look and pool_scrub answer numbers that can be 0 themselves: the refusal stands beside
- * them, in a field of its own. The calls on a transaction or a recovery hand back the record and answer in several kinds: a kind, its
- * value and the record. pool_begin and pool_check cannot be refused and answer what they make.
+ * them, in a field of its own. The calls that begin or go on with a transaction or a recovery hand back the record and answer in several
+ * kinds: a kind, its value and the record. pool_check cannot be refused and answers the check.
  */
 
 /*
- * A transaction, made by pool_begin: the number of its entries, and its phase: 0 open, 1 closed (done), k + 2 committing, with k steps
- * made. It goes in by value, and each call hands it back.
+ * A transaction, made by pool_begin: the id of its pool, the number of its entries, and its phase: 0 open, 1 closed (done), k + 2
+ * committing, with k steps made. It goes in by value, and each call hands it back. After a refused pool_begin: id 0, no entries, closed.
  */
 typedef struct {
+    uint64_t id;
     size_t count;
     size_t phase;
 } pool_transaction;
@@ -114,11 +120,12 @@ typedef struct {
 } pool_reply;
 
 /*
- * A recovery, made by pool_recover: what it has to do: 0 nothing, 1 clear both seals, 2 nothing can be done (refused), 2n + 3 replay log A
- * with n entries, 2n + 4 replay log B with n entries; and its phase: 0 finished, k + 1 recovering, with k steps made. It goes from call to
- * call as a transaction does.
+ * A recovery, made by pool_recover: the id of its pool; what it has to do: 0 nothing, 1 clear both seals, 2 nothing can be done (refused),
+ * 2n + 3 replay log A with n entries, 2n + 4 replay log B with n entries; and its phase: 0 finished, k + 1 recovering, with k steps made.
+ * It goes from call to call as a transaction does. After a refused pool_recover: id 0, work 2, finished.
  */
 typedef struct {
+    uint64_t id;
     size_t work;
     size_t phase;
 } pool_recovery;
@@ -149,7 +156,7 @@ typedef struct {
 
 /*
  * Makes a fresh pool: `zones` (1 to 16) zones, each of `rows` (1 to 15) data rows and a parity row, `cols` (1 to 64) pages a row. The id
- * is any number but 0. Refusals 1, 2.
+ * is any number but 0; whether another pool has it is not looked for. Refusals 1, 2.
  */
 size_t pool_format(uint8_t *pool, size_t pool_length, size_t rows, size_t cols, size_t zones, uint64_t id);
 
@@ -173,31 +180,31 @@ uint32_t pool_check(const uint8_t *bytes, size_t length);
 
 /* ---- A transaction. Its entries lie in the lent staging memory; until its commit is done, only these calls may change that memory. */
 
-/* A fresh transaction: open, without entries. */
-pool_transaction pool_begin(void);
+/* Begins a transaction on this pool: open, without entries. POOL_TAKEN; refusals 2, 3, 4, 21. */
+pool_reply pool_begin(const uint8_t *pool, size_t pool_length);
 
-/* Allocates an object with this tag and body. POOL_ADDRESS; refusals 2, 3, 4, 9, 10, 29, 21, 6, 23, 26, 27. */
+/* Allocates an object with this tag and body. POOL_ADDRESS; refusals 2, 3, 4, 9, 10, 11, 29, 21, 6, 23, 26, 27. */
 pool_reply pool_allocate(pool_transaction transaction, const uint8_t *pool, size_t pool_length, uint8_t *staging, size_t staging_length,
                          uint32_t tag, const uint8_t *body, size_t body_length);
 
 /*
- * Writes bytes over the body of the object at this address, from its byte `at` on. POOL_TAKEN; refusals 2, 3, 4, 9, 10, 29, 21, 5, 23, 24,
- * 25, 7, 27.
+ * Writes bytes over the body of the object at this address, from its byte `at` on. POOL_TAKEN; refusals 2, 3, 4, 9, 10, 11, 29, 21, 5, 23,
+ * 24, 25, 7, 27.
  */
 pool_reply pool_write(pool_transaction transaction, const uint8_t *pool, size_t pool_length, uint8_t *staging, size_t staging_length,
                       size_t address, size_t at, const uint8_t *bytes, size_t bytes_length);
 
-/* Frees the object at this address. POOL_TAKEN; refusals 2, 3, 4, 9, 10, 29, 21, 5, 23, 24, 25, 27. */
+/* Frees the object at this address. POOL_TAKEN; refusals 2, 3, 4, 9, 10, 11, 29, 21, 5, 23, 24, 25, 27. */
 pool_reply pool_free(pool_transaction transaction, const uint8_t *pool, size_t pool_length, uint8_t *staging, size_t staging_length,
                      size_t address);
 
-/* Starts the commit and makes no store. POOL_STARTED, or POOL_DONE with 0 if nothing is staged; refusals 2, 3, 4, 9, 10, 29, 21. */
+/* Starts the commit and makes no store. POOL_STARTED, or POOL_DONE with 0 if nothing is staged; refusals 2, 3, 4, 9, 10, 11, 29, 21. */
 pool_reply pool_commit(pool_transaction transaction, const uint8_t *pool, size_t pool_length, const uint8_t *staging,
                        size_t staging_length);
 
 /*
  * Makes the commit's next step: one aligned 8-byte store, or one barrier. POOL_STORED, POOL_BARRIER or POOL_DONE; refusals 2, 3, 4, 9,
- * 10, 29, and 21 at the first step. The library passes no barrier itself: after POOL_BARRIER and POOL_DONE the caller does, so that all
+ * 10, 11, 29, and 21 at the first step. The library passes no barrier itself: after POOL_BARRIER and POOL_DONE the caller does, so that all
  * stores made so far have reached memory.
  */
 pool_reply pool_commit_step(pool_transaction transaction, uint8_t *pool, size_t pool_length, const uint8_t *staging,
@@ -215,10 +222,10 @@ pool_reply pool_commit_advance(pool_transaction transaction, uint8_t *pool, size
 
 /* ---- Recovery, after a power cut, before any other call on the pool. A recovery that is cut is started anew. */
 
-/* Starts a recovery and makes no store. POOL_STARTED, or POOL_DONE with 0 if there is nothing to do; refusals 2, 3, 4, 22. */
+/* Starts a recovery of this pool and makes no store. POOL_STARTED, or POOL_DONE with 0 if there is nothing to do; refusals 2, 3, 4, 22. */
 pool_recovery_reply pool_recover(const uint8_t *pool, size_t pool_length);
 
-/* Makes the recovery's next step, as pool_commit_step does. Refusals 2, 3, 4, 10, 29. */
+/* Makes the recovery's next step, as pool_commit_step does. Refusals 2, 3, 4, 10, 11, 29. */
 pool_recovery_reply pool_recover_step(pool_recovery recovery, uint8_t *pool, size_t pool_length);
 
 /*

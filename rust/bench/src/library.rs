@@ -6,7 +6,7 @@ pub struct Library {
     pub scrub: fn(&[u8]) -> Counts,
     pub repair: fn(&mut [u8], &[u16]) -> usize,
     pub check: fn(&[u8]) -> u32,
-    begin: fn() -> Transaction,
+    begin: fn(&[u8]) -> Reply,
     pub allocate: fn(Transaction, &[u8], &mut [u8], u32, &[u8]) -> Reply,
     pub write: fn(Transaction, &[u8], &mut [u8], usize, usize, &[u8]) -> Reply,
     pub free: fn(Transaction, &[u8], &mut [u8], usize) -> Reply,
@@ -49,9 +49,11 @@ pub enum Way {
 }
 
 impl Library {
-    /// A fresh transaction over this pool.
-    pub fn open(&self, _pool: &[u8]) -> Transaction {
-        (self.begin)()
+    /// A fresh transaction on this pool.
+    pub fn open(&self, pool: &[u8]) -> Transaction {
+        let reply = (self.begin)(pool);
+        assert_eq!(reply.kind, reference::TAKEN);
+        reply.transaction
     }
 
     /// Commits to the end, and passes these barriers; the number of steps.

@@ -1,5 +1,4 @@
 //! The calls of the boundary as values, made on the library and on the reference with everything compared.
-use crate::staged::begin;
 use linked::{Counts, Part, Recovery, RecoveryReply, Reply, Transaction};
 
 /// What calls are given and change.
@@ -12,14 +11,11 @@ pub struct Given {
 }
 
 impl Given {
-    /// With a fresh transaction.
-    pub fn new(pool: Vec<u8>, staging: Vec<u8>, recovery: Recovery) -> Given {
-        Given { transaction: begin(&pool), pool, staging, recovery }
-    }
-
-    /// A fresh transaction in place of the one that was there.
-    pub fn begin(&mut self) {
-        self.transaction = begin(&self.pool);
+    /// Nothing is begun: the records are those of refused calls.
+    pub fn new(pool: Vec<u8>, staging: Vec<u8>) -> Given {
+        let transaction = Transaction { id: 0, count: 0, phase: 1 };
+        let recovery = Recovery { id: 0, work: 2, phase: 0 };
+        Given { pool, staging, transaction, recovery }
     }
 }
 
@@ -49,7 +45,6 @@ pub enum Answer {
     Part(Part),
     Counts(Counts),
     Sum(u32),
-    Transaction(Transaction),
     Reply(Reply),
     RecoveryReply(RecoveryReply),
 }
@@ -75,6 +70,11 @@ impl Call {
             Call::RecoverAdvance => "recover_advance",
         }
     }
+
+    /// Whether it is given no record and hands one back, also if it is refused.
+    fn begins(&self) -> bool {
+        matches!(self, Call::Begin | Call::Recover)
+    }
 }
 
 impl Answer {
@@ -84,7 +84,7 @@ impl Answer {
             Answer::Refusal(n) => (n, None),
             Answer::Part(part) => (part.refusal, None),
             Answer::Counts(counts) => (counts.refusal, None),
-            Answer::Sum(_) | Answer::Transaction(_) => (0, None),
+            Answer::Sum(_) => (0, None),
             Answer::Reply(Reply { kind, value, .. }) | Answer::RecoveryReply(RecoveryReply { kind, value, .. }) => {
                 (if kind == linked::REFUSED { value } else { 0 }, Some(kind))
             }
@@ -94,7 +94,6 @@ impl Answer {
     /// What later calls are given: the record handed back.
     pub fn hand_back(&self, given: &mut Given) {
         match *self {
-            Answer::Transaction(transaction) => given.transaction = transaction,
             Answer::Reply(reply) => given.transaction = reply.transaction,
             Answer::RecoveryReply(reply) => given.recovery = reply.recovery,
             _ => (),
@@ -112,7 +111,7 @@ macro_rules! make_call {
                 Call::Scrub => Answer::Counts($side::scrub(pool)),
                 Call::Repair(lost) => Answer::Refusal($side::repair(pool, lost)),
                 Call::Check(bytes) => Answer::Sum($side::check(bytes)),
-                Call::Begin => Answer::Transaction($side::begin()),
+                Call::Begin => Answer::Reply($side::begin(pool)),
                 Call::Allocate { tag, body } => Answer::Reply($side::allocate(t, pool, staging, *tag, body)),
                 Call::Write { address, at, bytes } => Answer::Reply($side::write(t, pool, staging, *address, *at, bytes)),
                 &Call::Free(address) => Answer::Reply($side::free(t, pool, staging, address)),
@@ -159,7 +158,7 @@ impl Lent {
 }
 
 /// Makes the call on both sides. The answers, and every byte of pool and staging memory, must be equal, and nothing
-/// may change if the call is refused. `given` is left as the call leaves it.
+/// may change if the call is refused, the record apart if the call is to begin one. `given` is left as the call leaves it.
 pub fn compare(call: &Call, given: &mut Given, alignment: usize) -> Answer {
     let before = given.clone();
     let (t, r) = (given.transaction, given.recovery);
@@ -168,13 +167,15 @@ pub fn compare(call: &Call, given: &mut Given, alignment: usize) -> Answer {
     let got = by_library(call, pool.bytes(), staging.bytes(), t, r);
     let wanted = by_reference(call, &mut given.pool, &mut given.staging, t, r);
     wanted.hand_back(given);
-    let refused = wanted.refusal_and_kind().0 != 0 && !matches!(call, Call::Recover);
+    let refused = wanted.refusal_and_kind().0 != 0;
+    let memory_changed = || given.pool != before.pool || given.staging != before.staging;
+    let records_changed = !call.begins() && (given.transaction, given.recovery) != (t, r);
     let faults = [
         (got != wanted, "the answers differ"),
         (pool.bytes() != given.pool, "the pools differ"),
         (staging.bytes() != given.staging, "the staging memories differ"),
         (!pool.guards_stand() || !staging.guards_stand(), "bytes outside the lent memory changed"),
-        (refused && *given != before, "a refused call changed something"),
+        (refused && (records_changed || memory_changed()), "a refused call changed something"),
     ];
     for (fault, what) in faults {
         assert!(!fault, "{what}: {}\nthe library   {got:?}\nthe reference {wanted:?}", describe(call, &before));

@@ -364,13 +364,14 @@ impl Function {
         next
     }
 
-    /// The table that jump n goes through: its entry is loaded right before, and its place before that, with no jump or call between.
+    /// The table that jump n goes through: its place, then its entry are loaded before, with no jump or call between.
     fn table(&self, n: usize) -> usize {
-        let (jump, before) = (&self.code[n], &self.code[n.saturating_sub(6)..n]);
-        let loaded = |load: &Instruction| load.is(&["movslq"]) && jump.last().strip_prefix('*') == Some(load.last());
-        assert!(before.iter().any(loaded), "a jump that is not through a table: {jump:?}");
-        let straight = before.iter().rev().take_while(|i| !i.is_jump() && !i.is(&["call"]));
-        straight.filter_map(Instruction::table).next().unwrap_or_else(|| panic!("a jump through no known table: {jump:?}"))
+        let jump = &self.code[n];
+        let straight = || self.code[..n].iter().rev().take_while(|i| !i.is_jump() && !i.is(&["call"]));
+        let load = straight().find(|load| load.is(&["movslq"]) && jump.last().strip_prefix('*') == Some(load.last()));
+        let load = load.unwrap_or_else(|| panic!("a jump that is not through a table: {jump:?}"));
+        let place = straight().find(|place| place.table().is_some() && load.operands[0].starts_with(&format!("({},", place.last())));
+        place.and_then(Instruction::table).unwrap_or_else(|| panic!("a jump through no known table: {jump:?}"))
     }
 }
 

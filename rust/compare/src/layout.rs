@@ -104,6 +104,19 @@ pub fn header_shape(page: &[u8]) -> Option<Shape> {
     (in_range && page[7] == 1 && id != 0 && page == header(fields, id)).then_some(Shape { rows, cols, zones })
 }
 
+/// Makes both headers those of this shape and id.
+pub fn put_headers(shape: Shape, pool: &mut [u8], id: u64) {
+    let page = header([shape.rows as u8, shape.cols as u8, shape.zones as u8, 1], id);
+    pool[..PAGE].copy_from_slice(&page);
+    pool[PAGE..2 * PAGE].copy_from_slice(&page);
+}
+
+/// The id of a pool: that of its first valid header; 0 if there is none.
+pub fn pool_id(pool: &[u8]) -> u64 {
+    let first = pool.chunks_exact(PAGE).take(2).find(|page| header_shape(page).is_some());
+    first.map_or(0, |page| get(page, 8, 8))
+}
+
 /// The check of a run: head bytes 0 to 7 and 12 to 15, then the body.
 pub fn run_check(head: &[u8], body: &[u8]) -> u32 {
     check(head[..8].iter().chain(&head[12..16]).chain(body))

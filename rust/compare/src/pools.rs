@@ -15,10 +15,8 @@ pub fn shape(random: &mut Random) -> Shape {
 /// A sound pool: each zone empty, full of objects, or mixed; free cells hold zeros or stale bytes.
 pub fn filled(random: &mut Random, shape: Shape) -> Vec<u8> {
     let mut pool = vec![0; shape.length()];
-    let id = random.next() | 1;
-    let fields = [shape.rows as u8, shape.cols as u8, shape.zones as u8, 1];
-    pool[..PAGE].copy_from_slice(&header(fields, id));
-    pool[PAGE..2 * PAGE].copy_from_slice(&header(fields, id));
+    let id = if random.once_in(8) { random.pick(&[1, u64::MAX]) } else { random.next() | 1 };
+    put_headers(shape, &mut pool, id);
     if random.once_in(2) {
         pool[ZONES..].copy_from_slice(&random.bytes(shape.length() - ZONES));
     }

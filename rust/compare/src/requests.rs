@@ -42,11 +42,22 @@ pub fn staged(random: &mut Random, shape: Shape, pool: &[u8]) -> (Vec<u8>, Trans
         count = list.len();
     }
     staging.truncate(length);
-    (staging, transaction(random, count))
+    (staging, transaction(random, pool, count))
 }
 
-/// A record with so many entries, in any phase; sometimes one that cannot be.
-fn transaction(random: &mut Random, count: usize) -> Transaction {
+/// Mostly the pool's id; else 0, the highest number, or one that differs by 1 or in a bit.
+fn id(random: &mut Random, pool: &[u8]) -> u64 {
+    let id = pool_id(pool);
+    let others = [id.wrapping_sub(1), id.wrapping_add(1), id ^ 1 << random.below(64)];
+    match random.below(16) {
+        0 => random.pick(&[0, u64::MAX]),
+        1 => random.pick(&others),
+        _ => id,
+    }
+}
+
+/// A record with so many entries, in any phase; sometimes one that cannot be, or one of another pool.
+fn transaction(random: &mut Random, pool: &[u8], count: usize) -> Transaction {
     let steps = 6 * count + 9;
     let count = match random.below(24) {
         0 => random.pick(&[0, 1, 126, 127, 128, 129]),
@@ -61,10 +72,10 @@ fn transaction(random: &mut Random, count: usize) -> Transaction {
         11 => 2 + steps - random.below(3),
         _ => 2 + random.below(steps),
     };
-    Transaction { count, phase }
+    Transaction { id: id(random, pool), count, phase }
 }
 
-/// A record of a recovery, mostly of a log that the pool has.
+/// A record of a recovery, mostly of a log that the pool has, and of this pool.
 pub fn recovery(random: &mut Random, pool: &[u8]) -> Recovery {
     let log = random.below(2);
     let count = match random.below(8) {
@@ -85,7 +96,7 @@ pub fn recovery(random: &mut Random, pool: &[u8]) -> Recovery {
         3..=5 => 1 + steps - random.below(5),
         _ => 1 + random.below(steps),
     };
-    Recovery { work, phase }
+    Recovery { id: id(random, pool), work, phase }
 }
 
 /// The pool as the staged entries change it.

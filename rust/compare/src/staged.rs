@@ -7,9 +7,11 @@ use linked::{Transaction, ADDRESS, TAKEN};
 /// Bytes of staging memory that a transaction needs.
 pub const STAGING: usize = 2032;
 
-/// A fresh transaction of the library over this pool.
-pub fn begin(_pool: &[u8]) -> Transaction {
-    linked::begin()
+/// A fresh transaction of the library on this pool.
+pub fn begin(pool: &[u8]) -> Transaction {
+    let reply = linked::begin(pool);
+    assert_eq!((reply.kind, reply.value), (TAKEN, 0));
+    reply.transaction
 }
 
 /// A change to be staged.
@@ -29,7 +31,7 @@ pub struct Staged {
 }
 
 impl Staged {
-    /// A fresh transaction over a pool, which has these objects.
+    /// A fresh transaction on a pool, which has these objects.
     pub fn new(pool: &[u8], old: &[Object]) -> Staged {
         Staged { transaction: begin(pool), staging: vec![0; STAGING], new: old.to_vec(), refused: 0 }
     }

@@ -1,4 +1,4 @@
-//! The library from C: the header, the example program, and the boundary as Rust declares it.
+//! The library from C: the header, the example program, a program with two modules, and the boundary as Rust declares it.
 use linked::{Counts, Part, Recovery, RecoveryReply, Reply, Transaction};
 use std::fmt::Write;
 use std::fs;
@@ -38,12 +38,23 @@ fn the_header_stands_alone() {
     compile(&[Path::new("-fsyntax-only"), Path::new("-x"), Path::new("c"), &header]);
 }
 
+/// Runs this C program of a folder: it prints what stands beside it.
+fn prints_what_it_should(folder: &str, name: &str) {
+    let source = repository().join(folder).join(name).with_extension("c");
+    let printed = run(&source, name);
+    assert_eq!(printed, fs::read_to_string(source.with_extension("txt")).expect("what it should print"));
+    print!("linked with {}\n{printed}", linked::ARCHIVE);
+}
+
 #[test]
 fn the_example_prints_what_it_should() {
-    let printed = run(&repository().join("examples/save.c"), "save");
-    let wanted = fs::read_to_string(repository().join("examples/save.txt")).expect("examples/save.txt");
-    assert_eq!(printed, wanted);
-    print!("linked with {}\n{printed}", linked::ARCHIVE);
+    prints_what_it_should("examples", "save");
+}
+
+/// Records and replies go through memory: every number of them is as it should be, after every call that takes or makes one.
+#[test]
+fn records_of_two_modules() {
+    prints_what_it_should("rust/compare/tests", "modules");
 }
 
 /// A line for the size of a struct, and one for the place of each field, as C prints it and as Rust has it.
@@ -56,8 +67,8 @@ macro_rules! layout {
     };
 }
 
-/// The refusals of the paper's two tables by their names in the header.
-const REFUSALS: [(&str, usize); 19] = [
+/// The refusals of the papers by their names in the header.
+const REFUSALS: [(&str, usize); 20] = [
     ("SHAPE", 1),
     ("LENGTH", 2),
     ("NO_HEADER", 3),
@@ -68,6 +79,7 @@ const REFUSALS: [(&str, usize); 19] = [
     ("LOSS_LIST", 8),
     ("STAGING", 9),
     ("RECORD", 10),
+    ("POOL", 11),
     ("SEALED", 21),
     ("NO_LOG", 22),
     ("BROKEN", 23),
@@ -82,9 +94,9 @@ const REFUSALS: [(&str, usize); 19] = [
 #[test]
 fn structs_and_numbers_are_the_same() {
     let mut same: Vec<(String, usize)> = Vec::new();
-    same.extend(layout!(pool_transaction, Transaction, count, phase));
+    same.extend(layout!(pool_transaction, Transaction, id, count, phase));
     same.extend(layout!(pool_reply, Reply, kind, value, transaction));
-    same.extend(layout!(pool_recovery, Recovery, work, phase));
+    same.extend(layout!(pool_recovery, Recovery, id, work, phase));
     same.extend(layout!(pool_recovery_reply, RecoveryReply, kind, value, recovery));
     same.extend(layout!(pool_part, Part, refusal, offset, length));
     same.extend(layout!(pool_counts, Counts, refusal, objects, damaged, broken, columns));
@@ -94,7 +106,7 @@ fn structs_and_numbers_are_the_same() {
     let header = fs::read_to_string(repository().join("include/pool.h")).unwrap();
     assert_eq!(header.matches("\n    POOL_REFUSED_").count(), REFUSALS.len());
     same.extend(REFUSALS.map(|(name, number)| (format!("POOL_REFUSED_{name}"), number)));
-    let limits = [("STAGING", 2032), ("BODY", 496), ("ENTRIES", 127), ("INTERFACE_VERSION", 1)];
+    let limits = [("STAGING", 2032), ("BODY", 496), ("ENTRIES", 127), ("INTERFACE_VERSION", 2)];
     same.extend(limits.map(|(name, number)| (format!("POOL_{name}"), number)));
     same.extend([("2, 2, 1", 6144), ("15, 64, 16", 4_198_912)].map(|(shape, length)| (format!("POOL_SIZE({shape})"), length)));
 
@@ -133,8 +145,7 @@ fn c_declaration(rust: &str) -> String {
     let (name, rest) = declaration.split_once('(').expect("arguments");
     let (arguments, result) = rest.split_once(") -> ").expect("a result");
     let types: Vec<&str> = arguments.split(',').filter_map(|argument| argument.split_once(": ")).map(|(_, t)| c_type(t.trim())).collect();
-    let arguments = if types.is_empty() { "void".to_string() } else { types.join(", ") };
-    format!("{} {name}({arguments});", c_type(result.trim()))
+    format!("{} {name}({});", c_type(result.trim()), types.join(", "))
 }
 
 fn c_type(rust: &str) -> &'static str {

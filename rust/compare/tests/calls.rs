@@ -1,28 +1,28 @@
 //! The library against the reference: every answer, and every byte of pool, staging memory and record, over random
 //! pools and requests.
 use compare::calls::{compare, Call, Given};
-use compare::layout::{Shape, LARGEST, LOGS};
+use compare::layout::{pool_id, put_headers, Shape, LARGEST, LOGS};
 use compare::random::Random;
 use compare::{pools, requests, times};
-use linked::Recovery;
 use std::collections::{BTreeMap, BTreeSet};
 
 /// What each call can answer. `2` stands twice: "2 short" under 512 bytes, "2 length" after the headers.
-const ANSWERS: [(&str, &str); 14] = [
+const ANSWERS: [(&str, &str); 15] = [
     ("format", "0, 1, 2 short, 2 length"),
     ("mend", "0, 2 short, 3, 4, 2 length"),
     ("look", "0, 2 short, 3, 4, 2 length, 21, 5, 23, 24, 25"),
     ("scrub", "0, 2 short, 3, 4, 2 length, 21"),
     ("repair", "0, 2 short, 3, 4, 2 length, 21, 8, 28"),
-    ("allocate", "address, 2 short, 3, 4, 2 length, 9, 10, 29, 21, 6, 23, 26, 27"),
-    ("write", "taken, 2 short, 3, 4, 2 length, 9, 10, 29, 21, 5, 23, 24, 25, 7, 27"),
-    ("free", "taken, 2 short, 3, 4, 2 length, 9, 10, 29, 21, 5, 23, 24, 25, 27"),
-    ("commit", "started, done, 2 short, 3, 4, 2 length, 9, 10, 29, 21"),
-    ("commit_step", "stored, barrier, done, 2 short, 3, 4, 2 length, 9, 10, 29, 21"),
-    ("commit_advance", "barrier, done, 2 short, 3, 4, 2 length, 9, 10, 29, 21"),
+    ("begin", "taken, 2 short, 3, 4, 2 length, 21"),
+    ("allocate", "address, 2 short, 3, 4, 2 length, 9, 10, 11, 29, 21, 6, 23, 26, 27"),
+    ("write", "taken, 2 short, 3, 4, 2 length, 9, 10, 11, 29, 21, 5, 23, 24, 25, 7, 27"),
+    ("free", "taken, 2 short, 3, 4, 2 length, 9, 10, 11, 29, 21, 5, 23, 24, 25, 27"),
+    ("commit", "started, done, 2 short, 3, 4, 2 length, 9, 10, 11, 29, 21"),
+    ("commit_step", "stored, barrier, done, 2 short, 3, 4, 2 length, 9, 10, 11, 29, 21"),
+    ("commit_advance", "barrier, done, 2 short, 3, 4, 2 length, 9, 10, 11, 29, 21"),
     ("recover", "started, done, 2 short, 3, 4, 2 length, 22"),
-    ("recover_step", "stored, barrier, done, 2 short, 3, 4, 2 length, 10, 29"),
-    ("recover_advance", "barrier, done, 2 short, 3, 4, 2 length, 10, 29"),
+    ("recover_step", "stored, barrier, done, 2 short, 3, 4, 2 length, 10, 11, 29"),
+    ("recover_advance", "barrier, done, 2 short, 3, 4, 2 length, 10, 11, 29"),
 ];
 
 /// One step, and all up to the next barrier.
@@ -43,8 +43,8 @@ impl Comparison {
         Comparison { random: Random::new(seed), counts: BTreeMap::new() }
     }
 
-    /// Makes one call on both sides; answers whether it started or went on with steps.
-    fn make(&mut self, call: &Call, given: &mut Given) -> bool {
+    /// Makes one call on both sides; answers what both answered.
+    fn answer(&mut self, call: &Call, given: &mut Given) -> String {
         let short = given.pool.len() < 512;
         let answer = compare(call, given, self.random.below(16));
         let what = match answer.refusal_and_kind() {
@@ -52,9 +52,13 @@ impl Comparison {
             (0, Some(kind)) => KINDS[kind].to_string(),
             (n, _) => n.to_string(),
         };
-        let goes_on = ["started", "stored", "barrier"].contains(&what.as_str());
-        *self.counts.entry((call.name(), what)).or_default() += 1;
-        goes_on
+        *self.counts.entry((call.name(), what.clone())).or_default() += 1;
+        what
+    }
+
+    /// Makes one call on both sides; answers whether it started or went on with steps.
+    fn make(&mut self, call: &Call, given: &mut Given) -> bool {
+        ["started", "stored", "barrier"].contains(&self.answer(call, given).as_str())
     }
 
     /// Makes steps until they end, or, once in so many times, stops before: single ones, all up to a barrier at a time, or now these and now
@@ -85,12 +89,18 @@ impl Comparison {
         }
     }
 
+    /// A sound pool with a fresh transaction and a recovery that found nothing to do.
+    fn begun(&mut self, shape: Shape) -> Given {
+        let pool = pools::filled(&mut self.random, shape);
+        let mut given = Given::new(pool, self.random.bytes(2032));
+        assert_eq!(self.answer(&Call::Recover, &mut given), "done");
+        assert_eq!(self.answer(&Call::Begin, &mut given), "taken");
+        given
+    }
+
     /// A transaction on a sound pool: some calls, its commit with all steps, then what the pool holds.
     fn make_transaction(&mut self, shape: Shape) {
-        let pool = pools::filled(&mut self.random, shape);
-        let staging = self.random.bytes(2032);
-        let recovery = requests::recovery(&mut self.random, &pool);
-        let mut given = Given::new(pool, staging, recovery);
+        let mut given = self.begun(shape);
         for _ in 0..self.random.from_to(1, 10) {
             let call = requests::staging_call(&mut self.random, shape, &given);
             self.make(&call, &mut given);
@@ -107,12 +117,10 @@ impl Comparison {
     /// A commit of so many entries, then recoveries of what it leaves: from log A; from B, since an entry of A is spoilt; and of a pool with
     /// one seal and no valid log.
     fn advance_from_every_place(&mut self, shape: Shape, count: usize) {
-        let random = &mut self.random;
-        let pool = pools::filled(random, shape);
-        let targets = pools::targets(random, shape, count);
-        let mut staging = pools::entries(random, &pool, &targets, false);
-        staging.resize(2032, 0xA7);
-        let mut given = Given::new(pool, staging, Recovery { work: 0, phase: 0 });
+        let mut given = self.begun(shape);
+        let targets = pools::targets(&mut self.random, shape, count);
+        let entries = pools::entries(&mut self.random, &given.pool, &targets, false);
+        given.staging[..entries.len()].copy_from_slice(&entries);
         given.transaction.count = targets.len();
         assert!(self.make(&Call::Commit, &mut given));
         let mut sealed = given.clone();
@@ -158,17 +166,53 @@ impl Comparison {
         }
     }
 
-    /// Now and then, other records or staging memory, or damage.
+    /// Now and then, a transaction begun anew, other records or staging memory, or damage.
     fn disturb(&mut self, shape: Shape, given: &mut Given) {
-        let random = &mut self.random;
-        match random.below(24) {
-            0 | 1 => given.begin(),
-            2 if given.pool.len() >= shape.length() => {
-                (given.staging, given.transaction) = requests::staged(random, shape, &given.pool);
-            }
-            3 if given.pool.len() >= shape.length() => given.recovery = requests::recovery(random, &given.pool),
-            4 if given.pool.len() >= shape.length() => pools::damage(random, shape, &mut given.pool),
+        let whole = given.pool.len() >= shape.length();
+        match self.random.below(24) {
+            0 | 1 => _ = self.make(&Call::Begin, given),
+            2 if whole => (given.staging, given.transaction) = requests::staged(&mut self.random, shape, &given.pool),
+            3 if whole => given.recovery = requests::recovery(&mut self.random, &given.pool),
+            4 if whole => pools::damage(&mut self.random, shape, &mut given.pool),
             _ => (),
+        }
+    }
+
+    /// A save on one of two modules, cut after its seals, and a recovery; what each call hands back is offered to the other module.
+    fn save_beside_another(&mut self, shape: Shape) {
+        let mut given = self.begun(shape);
+        for _ in 0..self.random.from_to(1, 4) {
+            let call = requests::staging_call(&mut self.random, shape, &given);
+            self.make(&call, &mut given);
+            self.offer(shape, &given);
+        }
+        let (sealed, steps) = (4 * given.transaction.count + 3, 6 * given.transaction.count + 9);
+        let cut_at = self.random.from_to(sealed, steps);
+        self.make_and_offer(shape, &mut given, &Call::Commit, &Call::CommitStep, cut_at);
+        self.make_and_offer(shape, &mut given, &Call::Recover, &Call::RecoverStep, steps);
+    }
+
+    /// A start and its steps, until they end or as many as said are made.
+    fn make_and_offer(&mut self, shape: Shape, given: &mut Given, start: &Call, step: &Call, most: usize) {
+        let mut goes_on = self.make(start, given);
+        self.offer(shape, given);
+        for _ in 0..most {
+            if !goes_on {
+                break;
+            }
+            goes_on = self.make(step, given);
+            self.offer(shape, given);
+        }
+    }
+
+    /// Every call that takes a record, on a module that differs in its id alone: each is refused with 11, and nothing changes.
+    fn offer(&mut self, shape: Shape, given: &Given) {
+        let mut other = given.clone();
+        put_headers(shape, &mut other.pool, pool_id(&given.pool) % u64::MAX + 1);
+        let byte = vec![self.random.next() as u8];
+        let (allocate, write) = (Call::Allocate { tag: 1, body: byte.clone() }, Call::Write { address: 0, at: 0, bytes: byte });
+        for call in [allocate, write, Call::Free(0), Call::Commit].iter().chain(&COMMIT).chain(&RECOVER) {
+            assert_eq!(self.answer(call, &mut other), "11", "{call:?}");
         }
     }
 
@@ -227,6 +271,17 @@ fn advances_from_every_place() {
     comparison.print();
 }
 
+/// Two modules of one shape, with the same bytes but for their ids.
+#[test]
+fn records_of_another_module() {
+    let mut comparison = Comparison::new(7);
+    for _ in 0..100 * times() {
+        let shape = pools::shape(&mut comparison.random);
+        comparison.save_beside_another(shape);
+    }
+    comparison.print();
+}
+
 #[test]
 fn calls_on_the_largest_pools() {
     let mut comparison = Comparison::new(2);
@@ -241,7 +296,7 @@ fn calls_on_the_largest_pools() {
 #[test]
 fn check_of_random_bytes() {
     let mut comparison = Comparison::new(3);
-    let mut given = Given::new(Vec::new(), Vec::new(), Recovery { work: 0, phase: 0 });
+    let mut given = Given::new(Vec::new(), Vec::new());
     for length in (0..600).chain([5551, 5552, 5553, 65520, 65521, 65522, 1 << 20]) {
         let bytes = comparison.random.bytes(length);
         comparison.make(&Call::Check(bytes), &mut given);

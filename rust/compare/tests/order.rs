@@ -7,7 +7,7 @@
 use compare::layout::{put, Shape, LOGS};
 use compare::random::Random;
 use compare::trace::{bytes_mut, watched, Change};
-use compare::{pools, staged::STAGING};
+use compare::{pools, staged};
 use linked::{Recovery, RecoveryReply, Reply, Transaction, BARRIER, DONE, STARTED, STORED};
 
 const SHAPE: Shape = Shape { rows: 2, cols: 4, zones: 1 };
@@ -27,7 +27,7 @@ fn given(random: &mut Random, count: usize) -> (Vec<u64>, Vec<u8>) {
     let target = |(i, place): (usize, &usize)| SHAPE.zone(0) + i % 2 * SHAPE.row() + place * 8;
     let targets: Vec<usize> = places.iter().take(count).enumerate().map(target).collect();
     let mut staging = pools::entries(random, pool, &targets, false);
-    staging.resize(STAGING, 0xA7);
+    staging.resize(staged::STAGING, 0xA7);
     (words, staging)
 }
 
@@ -51,8 +51,8 @@ fn same(seen: &[Change], wanted: &[Store], what: &str) {
     }
 }
 
-/// The two numbers of a transaction's or a recovery's record.
-type Record = [usize; 2];
+/// The record of a transaction or a recovery: the pool's id and two numbers.
+type Record = (u64, usize, usize);
 
 /// An answer: its kind, its value and the record handed back.
 #[derive(Clone, Copy, Debug, PartialEq, Eq)]
@@ -104,23 +104,26 @@ impl Steps<'_> {
 }
 
 fn watch_commit(pool: &mut [u64], staging: &[u8], t: Transaction) -> (usize, usize) {
-    let transaction = |[count, phase]: Record| Transaction { count, phase };
-    let answer = |Reply { kind, value, transaction: t }| Answer { kind, value, record: [t.count, t.phase] };
+    let transaction = |(id, count, phase): Record| Transaction { id, count, phase };
+    let record = |t: Transaction| (t.id, t.count, t.phase);
+    let answer = |reply: Reply| Answer { kind: reply.kind, value: reply.value, record: record(reply.transaction) };
     let step = |record, pool: &mut [u8]| answer(linked::commit_step(transaction(record), pool, staging));
     let advance = |record, pool: &mut [u8]| answer(linked::commit_advance(transaction(record), pool, staging));
-    Steps { step: &step, advance: &advance }.watch(pool, [t.count, t.phase])
+    Steps { step: &step, advance: &advance }.watch(pool, record(t))
 }
 
 fn watch_recovery(pool: &mut [u64], r: Recovery) -> (usize, usize) {
-    let recovery = |[work, phase]: Record| Recovery { work, phase };
-    let answer = |RecoveryReply { kind, value, recovery: r }| Answer { kind, value, record: [r.work, r.phase] };
+    let recovery = |(id, work, phase): Record| Recovery { id, work, phase };
+    let record = |r: Recovery| (r.id, r.work, r.phase);
+    let answer = |reply: RecoveryReply| Answer { kind: reply.kind, value: reply.value, record: record(reply.recovery) };
     let step = |record, pool: &mut [u8]| answer(linked::recover_step(recovery(record), pool));
     let advance = |record, pool: &mut [u8]| answer(linked::recover_advance(recovery(record), pool));
-    Steps { step: &step, advance: &advance }.watch(pool, [r.work, r.phase])
+    Steps { step: &step, advance: &advance }.watch(pool, record(r))
 }
 
 fn started(pool: &mut [u64], staging: &[u8], count: usize) -> Transaction {
-    let reply = linked::commit(Transaction { count, ..linked::begin() }, bytes_mut(pool), staging);
+    let pool = bytes_mut(pool);
+    let reply = linked::commit(Transaction { count, ..staged::begin(pool) }, pool, staging);
     assert_eq!(reply.kind, STARTED);
     reply.transaction
 }

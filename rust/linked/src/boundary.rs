@@ -9,7 +9,7 @@ extern "C" {
     pub fn pool_scrub(pool: *const u8, pool_length: usize) -> Counts;
     pub fn pool_repair(pool: *mut u8, pool_length: usize, lost: *const u16, lost_length: usize) -> usize;
     pub fn pool_check(bytes: *const u8, length: usize) -> u32;
-    pub fn pool_begin() -> Transaction;
+    pub fn pool_begin(pool: *const u8, pool_length: usize) -> Reply;
     pub fn pool_allocate(
         transaction: Transaction,
         pool: *const u8,

@@ -36,8 +36,8 @@ pub fn check(bytes: &[u8]) -> u32 {
     unsafe { pool_check(bytes.as_ptr(), bytes.len()) }
 }
 
-pub fn begin() -> Transaction {
-    unsafe { pool_begin() }
+pub fn begin(pool: &[u8]) -> Reply {
+    unsafe { pool_begin(pool.as_ptr(), pool.len()) }
 }
 
 pub fn allocate(t: Transaction, pool: &[u8], staging: &mut [u8], tag: u32, body: &[u8]) -> Reply {

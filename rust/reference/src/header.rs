@@ -3,13 +3,27 @@
 use crate::checksum::check;
 use crate::layout::{word, WORD};
 use crate::layout::{Shape, HEADERS, LOG_A, LOG_B, PAGE};
-use crate::refusal::{HEADERS_DIFFER, LENGTH, NO_HEADER, SEALED};
+use crate::refusal::{HEADERS_DIFFER, LENGTH, NO_HEADER, OTHER_POOL, SEALED};
 
 const LETTERS: &[u8; 4] = b"SGPL";
 const VERSION: u8 = 1;
 const ID: usize = 8;
 const CHECK: usize = 16;
 const REST: usize = 20;
+
+/// What a valid copy tells.
+#[derive(Clone, Copy)]
+pub struct Header {
+    pub shape: Shape,
+    pub id: u64,
+}
+
+impl Header {
+    /// Refusal 11: a record with this id was begun on another pool.
+    pub fn judge_id(self, id: u64) -> Result<(), usize> {
+        (id == self.id).then_some(()).ok_or(OTHER_POOL)
+    }
+}
 
 /// The header of a pool of this shape.
 pub fn header(shape: Shape, id: u64) -> [u8; PAGE] {
@@ -26,24 +40,25 @@ pub fn header(shape: Shape, id: u64) -> [u8; PAGE] {
     page
 }
 
-/// The shape that a valid copy gives.
-fn valid(page: &[u8]) -> Option<Shape> {
+/// What this copy tells, if it is valid.
+fn valid(page: &[u8]) -> Option<Header> {
     let shape = Shape::new(page[4].into(), page[5].into(), page[6].into())?;
+    let id = word(page, ID);
     let fits = &page[..4] == LETTERS
         && page[7] == VERSION
-        && word(page, ID) != 0
+        && id != 0
         && page[CHECK..REST] == check(&page[..CHECK]).to_le_bytes()
         && page[REST..] == [0; PAGE - REST];
-    fits.then_some(shape)
+    fits.then_some(Header { shape, id })
 }
 
-/// The pool's shape; refusals 2 (under 512), 3, 4, 2 (length), in this order.
-pub fn open(pool: &[u8]) -> Result<Shape, usize> {
+/// The pool's first valid header; refusals 2 (under 512), 3, 4, 2 (length), in this order.
+pub fn open(pool: &[u8]) -> Result<Header, usize> {
     if pool.len() < HEADERS {
         return Err(LENGTH);
     }
     let (first, second) = pool[..HEADERS].split_at(PAGE);
-    let shape = if first == second {
+    let header = if first == second {
         valid(first).ok_or(NO_HEADER)?
     } else {
         match (valid(first), valid(second)) {
@@ -51,17 +66,17 @@ pub fn open(pool: &[u8]) -> Result<Shape, usize> {
             (one, other) => one.or(other).ok_or(NO_HEADER)?,
         }
     };
-    if pool.len() != shape.length() {
+    if pool.len() != header.shape.length() {
         return Err(LENGTH);
     }
-    Ok(shape)
+    Ok(header)
 }
 
 /// As `open`, and refusal 21: a seal is not zero.
-pub fn open_unsealed(pool: &[u8]) -> Result<Shape, usize> {
-    let shape = open(pool)?;
+pub fn open_unsealed(pool: &[u8]) -> Result<Header, usize> {
+    let header = open(pool)?;
     unsealed(pool)?;
-    Ok(shape)
+    Ok(header)
 }
 
 /// Refusal 21 of an open pool.

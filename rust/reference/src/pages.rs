@@ -63,7 +63,7 @@ pub fn repair(pool: &mut [u8], lost: &[u16]) -> usize {
 }
 
 fn may_repair(pool: &[u8], lost: &[u16]) -> Result<Shape, usize> {
-    let shape = open_unsealed(pool)?;
+    let shape = open_unsealed(pool)?.shape;
     let above = |&mask: &u16| u32::from(mask) >> (shape.rows + 1) != 0;
     if lost.len() != shape.zones * shape.cols || lost.iter().any(above) {
         return Err(LOSS_LIST);
@@ -78,7 +78,7 @@ fn may_repair(pool: &[u8], lost: &[u16]) -> Result<Shape, usize> {
 pub fn scrub(pool: &[u8]) -> Counts {
     let mut counts = Counts { refusal: 0, objects: 0, damaged: 0, broken: 0, columns: 0 };
     let shape = match open_unsealed(pool) {
-        Ok(shape) => shape,
+        Ok(header) => header.shape,
         Err(refusal) => return Counts { refusal, ..counts },
     };
     for zone in 0..shape.zones {

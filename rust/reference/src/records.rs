@@ -1,9 +1,11 @@
 //! What the calls take and answer, as in pool.h.
 
-/// The entries staged, and the phase: 0 open, 1 closed, k + 2 after k steps of the commit.
+/// The id of the pool that it was begun on, the entries staged, and the phase: 0 open, 1 closed, k + 2 after k steps of
+/// the commit.
 #[repr(C)]
 #[derive(Clone, Copy, Debug, PartialEq, Eq)]
 pub struct Transaction {
+    pub id: u64,
     pub count: usize,
     pub phase: usize,
 }
@@ -16,11 +18,12 @@ pub struct Reply {
     pub transaction: Transaction,
 }
 
-/// The work: 0 nothing, 1 clear both seals, 2 neither log is valid, 2n + 3 replay log A with n entries, 2n + 4 replay
-/// log B with n entries. The phase: 0 finished, k + 1 after k steps.
+/// The id of the pool that it was begun on. The work: 0 nothing, 1 clear both seals, 2 neither log is valid, 2n + 3
+/// replay log A with n entries, 2n + 4 replay log B with n entries. The phase: 0 finished, k + 1 after k steps.
 #[repr(C)]
 #[derive(Clone, Copy, Debug, PartialEq, Eq)]
 pub struct Recovery {
+    pub id: u64,
     pub work: usize,
     pub phase: usize,
 }
@@ -67,6 +70,9 @@ impl Transaction {
     pub(crate) const CLOSED: usize = 1;
     pub(crate) const COMMITTING: usize = 2; // plus the number of steps made
 
+    /// Handed back by a refused begin. No call takes it: no pool has the id 0.
+    pub(crate) const NONE: Transaction = Transaction { id: 0, count: 0, phase: Transaction::CLOSED };
+
     /// The steps of its commit; an empty transaction is done in none.
     pub(crate) fn steps(self) -> usize {
         match self.count {
@@ -88,6 +94,9 @@ impl Recovery {
 
     pub(crate) const FINISHED: usize = 0;
     pub(crate) const RECOVERING: usize = 1; // plus the number of steps made
+
+    /// Handed back by a refused start. No call takes it: no pool has the id 0.
+    pub(crate) const NONE: Recovery = Recovery { id: 0, work: Recovery::NO_LOG, phase: Recovery::FINISHED };
 
     pub(crate) fn reply(self, kind: usize, value: usize) -> RecoveryReply {
         RecoveryReply { kind, value, recovery: self }

@@ -1,5 +1,5 @@
 //! The refusals' numbers. A call gives the first that applies in the order 1, 2 (under 512 bytes), 3, 4, 2 (length), 9,
-//! 10, 29, 21, 22, 6, 8, 5, 23, 24, 25, 7, 26, 28, 27.
+//! 10, 11, 29, 21, 22, 6, 8, 5, 23, 24, 25, 7, 26, 28, 27.
 
 // From the input.
 pub const SHAPE: usize = 1; // format: rows, cols or zones outside its range, or id 0
@@ -12,6 +12,7 @@ pub const RANGE: usize = 7; // write: range empty or past the body
 pub const LOSS_LIST: usize = 8; // loss list not Z * C masks, or a bit above R set
 pub const STAGING: usize = 9; // staging under 2,032 bytes
 pub const IMPOSSIBLE: usize = 10; // transaction or recovery record impossible
+pub const OTHER_POOL: usize = 11; // the record's id is not the pool's
 
 // From the state.
 pub const SEALED: usize = 21; // a seal is not zero

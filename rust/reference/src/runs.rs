@@ -158,7 +158,7 @@ pub fn look(pool: &[u8], address: usize) -> Part {
 }
 
 fn find_committed(pool: &[u8], address: usize) -> Result<Run, usize> {
-    let shape = open_unsealed(pool)?;
+    let shape = open_unsealed(pool)?.shape;
     let object = find(pool, shape, address)?.object;
     if object.head.check != object.head.right_check(body(pool, object)) {
         return Err(DAMAGED);

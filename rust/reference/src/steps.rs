@@ -1,6 +1,6 @@
 //! Commit and recovery by steps: each makes one aligned 8-byte store or is one barrier.
 
-use crate::header::{open, unsealed};
+use crate::header::{open, unsealed, Header};
 use crate::layout::{put_word, word, Shape, ENTRY, LOG_A, LOG_B, LOG_ENTRIES, WORD};
 use crate::log::{entries, seal, valid};
 use crate::records::{Recovery, RecoveryReply, Reply, Transaction};
@@ -68,42 +68,45 @@ pub fn commit_step(t: Transaction, pool: &mut [u8], staging: &[u8]) -> Reply {
     Transaction { phase, ..t }.reply(kind, place + 1)
 }
 
-/// The pool's shape and the next step's place: 2, 3, 4, 2, 9, 10, 29, and 21 at the first step only.
+/// The pool's shape and the next step's place: 2, 3, 4, 2, 9, 10, 11, 29, and 21 at the first step only.
 pub fn next_of_commit(t: Transaction, pool: &[u8], staging: &[u8]) -> Result<(Shape, usize), usize> {
-    let shape = open(pool)?;
-    judge(t, shape, staging)?;
+    let header = open(pool)?;
+    judge(t, header, staging)?;
     let place = t.phase.checked_sub(Transaction::COMMITTING).ok_or(STATE)?;
     if place == 0 {
         unsealed(pool)?;
     }
-    Ok((shape, place))
+    Ok((header.shape, place))
 }
 
-/// Recovery replays A if valid, else B if valid. If neither is valid and a seal is zero, it clears both.
+/// Starts a recovery on this pool. A finished one has nothing to do. Refusals 2, 3, 4, 2, 22.
 pub fn recover(pool: &[u8]) -> RecoveryReply {
-    let (work, refusal) = match open(pool) {
-        Ok(shape) => (work_of(pool, shape), NO_LOG),
-        Err(refusal) => (Recovery::NO_LOG, refusal),
-    };
-    let finished = Recovery { work, phase: Recovery::FINISHED };
-    match work {
-        Recovery::NO_LOG => finished.reply(REFUSED, refusal),
-        Recovery::NOTHING => finished.reply(DONE, 0),
-        _ => Recovery { work, phase: Recovery::RECOVERING }.reply(STARTED, 0),
+    match started(pool) {
+        Ok(r) if r.phase == Recovery::FINISHED => r.reply(DONE, 0),
+        Ok(r) => r.reply(STARTED, 0),
+        Err(refusal) => Recovery::NONE.reply(REFUSED, refusal),
     }
 }
 
-fn work_of(pool: &[u8], shape: Shape) -> usize {
+fn started(pool: &[u8]) -> Result<Recovery, usize> {
+    let Header { shape, id } = open(pool)?;
+    let work = work_of(pool, shape)?;
+    let phase = if work == Recovery::NOTHING { Recovery::FINISHED } else { Recovery::RECOVERING };
+    Ok(Recovery { id, work, phase })
+}
+
+/// Recovery replays A if valid, else B if valid. If neither is valid and a seal is zero, it clears both; else 22.
+fn work_of(pool: &[u8], shape: Shape) -> Result<usize, usize> {
     if let Some(n) = valid(pool, shape, LOG_A) {
-        return Recovery::REPLAY + 2 * n;
+        return Ok(Recovery::REPLAY + 2 * n);
     }
     if let Some(n) = valid(pool, shape, LOG_B) {
-        return Recovery::REPLAY + 2 * n + 1;
+        return Ok(Recovery::REPLAY + 2 * n + 1);
     }
     match (word(pool, LOG_A), word(pool, LOG_B)) {
-        (0, 0) => Recovery::NOTHING,
-        (0, _) | (_, 0) => Recovery::CLEAR,
-        _ => Recovery::NO_LOG,
+        (0, 0) => Ok(Recovery::NOTHING),
+        (0, _) | (_, 0) => Ok(Recovery::CLEAR),
+        _ => Err(NO_LOG),
     }
 }
 
@@ -137,18 +140,24 @@ pub fn recovery_steps(work: usize) -> usize {
     }
 }
 
-/// The pool's shape and the next step's place: 2, 3, 4, 2, 10, 29. The log is judged in parts 3 and 4, with their barriers.
+/// The pool's shape and the next step's place: 2, 3, 4, 2, 10, 11, 29.
 pub fn next_of_recovery(r: Recovery, pool: &[u8]) -> Result<(Shape, usize), usize> {
-    let shape = open(pool)?;
-    let log = replayed(r.work);
+    let header = open(pool)?;
     let place = r.phase.checked_sub(Recovery::RECOVERING);
-    let too_many = log.is_some_and(|(_, n)| n > Shape::ENTRIES);
-    if too_many || place.is_some_and(|place| place >= recovery_steps(r.work)) {
+    if !is_possible(r.work, place, pool, header.shape) {
         return Err(IMPOSSIBLE);
     }
-    let place = place.ok_or(STATE)?;
-    if log.is_some_and(|(log, n)| place <= 2 * n + 1 && valid(pool, shape, log) != Some(n)) {
-        return Err(IMPOSSIBLE);
+    header.judge_id(r.id)?;
+    Ok((header.shape, place.ok_or(STATE)?))
+}
+
+/// The log is judged in parts 3 and 4, with their barriers; not if the recovery is finished, and so at no place.
+fn is_possible(work: usize, place: Option<usize>, pool: &[u8], shape: Shape) -> bool {
+    let log = replayed(work);
+    if log.is_some_and(|(_, n)| n > Shape::ENTRIES) {
+        return false;
     }
-    Ok((shape, place))
+    let Some(place) = place else { return true };
+    let judged = log.filter(|&(_, n)| place <= 2 * n + 1);
+    place < recovery_steps(work) && judged.is_none_or(|(log, n)| valid(pool, shape, log) == Some(n))
 }

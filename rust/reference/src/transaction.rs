@@ -1,16 +1,19 @@
-//! The open transaction: allocate, write, free, and the start of its commit.
+//! The open transaction: its beginning, allocate, write, free, and the start of its commit.
 
 use crate::checksum::updated;
-use crate::header::{open, unsealed};
+use crate::header::{open, open_unsealed, unsealed, Header};
 use crate::layout::{word, Shape, CELL, ENTRY, HEAD, WORD};
 use crate::records::{Reply, Transaction, ADDRESS, DONE, REFUSED, STARTED, TAKEN};
 use crate::refusal::{BODY, BROKEN, DAMAGED, IMPOSSIBLE, NO_OBJECT, NO_ROOM, RANGE, STAGING, STATE, TOO_MANY};
 use crate::runs::{cells_for, find, walk, Head, Place, Run};
 use crate::writeset::{targets_fit, WriteSet};
 
-/// A fresh transaction: open, without entries.
-pub fn begin() -> Transaction {
-    Transaction { count: 0, phase: Transaction::OPEN }
+/// A fresh transaction on this pool: open, without entries. Refusals 2, 3, 4, 2, 21.
+pub fn begin(pool: &[u8]) -> Reply {
+    match open_unsealed(pool) {
+        Ok(Header { id, .. }) => Transaction { id, count: 0, phase: Transaction::OPEN }.reply(TAKEN, 0),
+        Err(refusal) => Transaction::NONE.reply(REFUSED, refusal),
+    }
 }
 
 pub fn allocate(t: Transaction, pool: &[u8], staging: &mut [u8], tag: u32, body: &[u8]) -> Reply {
@@ -40,27 +43,29 @@ pub fn commit(t: Transaction, pool: &[u8], staging: &[u8]) -> Reply {
     Transaction { phase: Transaction::COMMITTING, ..t }.reply(STARTED, 0)
 }
 
-/// 2, 3, 4, 2, 9, 10, 29, 21.
+/// 2, 3, 4, 2, 9, 10, 11, 29, 21.
 fn may_commit(t: Transaction, pool: &[u8], staging: &[u8]) -> Result<(), usize> {
     judge(t, open(pool)?, staging)?;
     is_open(t)?;
     unsealed(pool)
 }
 
-/// The open transaction's write set: refusals 2, 3, 4, 2, 9, 10, 29, 21.
+/// The open transaction's write set: refusals 2, 3, 4, 2, 9, 10, 11, 29, 21.
 fn staged<'a>(t: Transaction, pool: &'a [u8], staging: &'a mut [u8]) -> Result<(Shape, WriteSet<'a>), usize> {
-    let shape = open(pool)?;
+    let header = open(pool)?;
     judge_counts(t, staging)?;
-    let set = WriteSet::new(shape, pool, staging, t.count).ok_or(IMPOSSIBLE)?;
+    let set = WriteSet::new(header.shape, pool, staging, t.count).ok_or(IMPOSSIBLE)?;
+    header.judge_id(t.id)?;
     is_open(t)?;
     unsealed(pool)?;
-    Ok((shape, set))
+    Ok((header.shape, set))
 }
 
-/// Refusals 9 and 10: the entries are judged in every state.
-pub fn judge(t: Transaction, shape: Shape, staging: &[u8]) -> Result<(), usize> {
+/// Refusals 9, 10 and 11: the record and its entries are judged in every state.
+pub fn judge(t: Transaction, header: Header, staging: &[u8]) -> Result<(), usize> {
     judge_counts(t, staging)?;
-    targets_fit(shape, &staging[..t.count * ENTRY]).then_some(()).ok_or(IMPOSSIBLE)
+    targets_fit(header.shape, &staging[..t.count * ENTRY]).then_some(()).ok_or(IMPOSSIBLE)?;
+    header.judge_id(t.id)
 }
 
 /// 9, and of 10: a count above 127, or a place past the commit's list.

@@ -5,10 +5,12 @@ mod common;
 use common::open;
 use reference::*;
 
+const ID: u64 = 7;
+
 /// R 2, C 2, Z 1, empty, and a transaction with so many entries: words of the data rows, not ascending.
 fn staged(entries: usize) -> (Vec<u8>, Transaction, [u8; 2032]) {
     let (mut pool, mut staging) = (vec![0; 6144], [0; 2032]);
-    assert_eq!(format(&mut pool, 2, 2, 1, 7), 0);
+    assert_eq!(format(&mut pool, 2, 2, 1, ID), 0);
     for (i, entry) in staging.chunks_exact_mut(16).take(entries).enumerate() {
         let target = 18 * 256 + i * 37 % 128 * 8;
         entry[..8].copy_from_slice(&(target as u64).to_le_bytes());
@@ -87,7 +89,7 @@ fn calls_of_a_commit() {
         assert_eq!((reply.kind, reply.value), (kind, value));
         t = reply.transaction;
     }
-    assert_eq!(t, Transaction { count: 10, phase: 1 });
+    assert_eq!(t, Transaction { id: ID, count: 10, phase: 1 });
     let (mut pool, t, staging) = staged(10);
     let t = commit(t, &pool, &staging).transaction;
     let t = commit_advance(t, &mut pool, &staging).transaction;
@@ -98,10 +100,10 @@ fn calls_of_a_commit() {
         assert_eq!((reply.kind, reply.value), (kind, value));
         r = reply.recovery;
     }
-    assert_eq!(r, Recovery { work: 23, phase: 0 });
+    assert_eq!(r, Recovery { id: ID, work: 23, phase: 0 });
 }
 
-/// Records that are open, closed, finished or impossible, a scribbled log, a sealed pool, short staging memory, a lost header.
+/// Records that are open, closed, finished, impossible or of another pool, a scribbled log, a sealed pool, short staging memory, a lost header.
 #[test]
 fn refused_as_a_step() {
     let (pool, _, staging) = staged(3);
@@ -111,22 +113,28 @@ fn refused_as_a_step() {
     none[0] = 0;
     none[256] = 0;
     for before in [&pool, &sealed, &none, &pool[1..].to_vec(), &Vec::new()] {
-        for (count, phase) in [(3, 0), (3, 1), (3, 2), (3, 15), (3, 29), (0, 2), (128, 2), (usize::MAX, usize::MAX)] {
-            for staging in [&staging[..], &staging[1..]] {
-                let t = Transaction { count, phase };
-                let (mut by_steps, mut by_advance) = (before.clone(), before.clone());
-                let wanted = stepped(t, &mut by_steps, staging);
-                assert_eq!(commit_advance(t, &mut by_advance, staging), wanted);
-                assert_eq!(by_advance, by_steps);
-            }
+        for id in [ID, ID + 1] {
+            refused_alike(before, &staging, id);
         }
-        for (work, phase) in
-            [(0, 0), (0, 1), (1, 0), (1, 1), (1, 4), (2, 1), (3, 1), (9, 1), (10, 3), (9, 9), (10, 13), (259, 1), (usize::MAX, 1)]
-        {
-            let r = Recovery { work, phase };
-            let (mut by_steps, mut by_advance) = (before.clone(), before.clone());
-            assert_eq!(recover_advance(r, &mut by_advance), stepped_recovery(r, &mut by_steps));
+    }
+}
+
+fn refused_alike(before: &[u8], staging: &[u8], id: u64) {
+    for (count, phase) in [(3, 0), (3, 1), (3, 2), (3, 15), (3, 29), (0, 2), (128, 2), (usize::MAX, usize::MAX)] {
+        for staging in [staging, &staging[1..]] {
+            let t = Transaction { id, count, phase };
+            let (mut by_steps, mut by_advance) = (before.to_vec(), before.to_vec());
+            let wanted = stepped(t, &mut by_steps, staging);
+            assert_eq!(commit_advance(t, &mut by_advance, staging), wanted);
             assert_eq!(by_advance, by_steps);
         }
+    }
+    for (work, phase) in
+        [(0, 0), (0, 1), (1, 0), (1, 1), (1, 4), (2, 1), (3, 1), (9, 1), (10, 3), (9, 9), (10, 13), (259, 1), (usize::MAX, 1)]
+    {
+        let r = Recovery { id, work, phase };
+        let (mut by_steps, mut by_advance) = (before.to_vec(), before.to_vec());
+        assert_eq!(recover_advance(r, &mut by_advance), stepped_recovery(r, &mut by_steps));
+        assert_eq!(by_advance, by_steps);
     }
 }

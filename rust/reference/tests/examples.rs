@@ -168,7 +168,7 @@ fn steps_of_a_commit() {
         assert!(changed.len() <= usize::from(kind == STORED));
         t = reply.transaction;
     }
-    assert_eq!(t, Transaction { count: 10, phase: 1 });
+    assert_eq!(t, Transaction { id: ID, count: 10, phase: 1 });
 }
 
 /// A cut with only seal A stored.
@@ -183,11 +183,11 @@ fn cut_with_seal_a() {
     assert_eq!(number(&pool[SEAL_A + 4..][..4]), 0xA51C_000A);
     assert_eq!(number(&pool[SEAL_B..][..8]), 0);
     assert_eq!(look(&pool, 0).refusal, 21);
-    assert_eq!(recover(&pool).recovery, Recovery { work: 23, phase: 1 });
+    assert_eq!(recover(&pool).recovery, Recovery { id: ID, work: 23, phase: 1 });
     assert_eq!(recover_all(&mut pool), 25);
     assert_eq!(pool[look(&pool, 0).offset], 0x61);
     assert_eq!(scrub(&pool), sound(1));
-    assert_eq!(recover(&pool), RecoveryReply { kind: DONE, value: 0, recovery: Recovery { work: 0, phase: 0 } });
+    assert_eq!(recover(&pool), RecoveryReply { kind: DONE, value: 0, recovery: Recovery { id: ID, work: 0, phase: 0 } });
 }
 
 #[test]

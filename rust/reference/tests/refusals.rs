@@ -132,7 +132,7 @@ fn records() {
     }
     assert_eq!(commit_step(t, &mut whole, &staging), refused(t, 29));
     for (count, phase) in [(128, 0), (usize::MAX, 0), (0, 2)] {
-        let t = Transaction { count, phase };
+        let t = Transaction { count, phase, ..t };
         assert_eq!(commit_step(t, &mut whole, &staging), refused(t, 10));
         assert_eq!(commit(t, &whole, &staging[1..]), refused(t, 9));
     }
@@ -154,13 +154,15 @@ fn seals() {
     assert_eq!(repair(&mut whole, &[]), 21);
     assert_eq!(allocate(t, &whole, &mut staging, 0, &[]), refused(t, 21));
     assert_eq!(commit_step(started, &mut whole, &staging), refused(started, 21));
-    assert_eq!(recover(&whole).recovery, Recovery { work: 1, phase: 1 });
+    let r = recover(&whole).recovery;
+    assert_eq!(r, Recovery { id: 7, work: 1, phase: 1 });
     whole[10 * 256] = 1;
-    let refused = |work, phase, value| RecoveryReply { kind: REFUSED, value, recovery: Recovery { work, phase } };
-    assert_eq!(recover(&whole), refused(2, 0, 22));
+    let refused = |recovery, value| RecoveryReply { kind: REFUSED, value, recovery };
+    assert_eq!(recover(&whole), refused(Recovery { id: 0, work: 2, phase: 0 }, 22));
     for (work, phase, value) in [(2, 0, 29), (0, 1, 10), (1, 4, 10), (7, 1, 10), (259, 0, 10), (7, 10, 10)] {
-        assert_eq!(recover_step(Recovery { work, phase }, &mut whole), refused(work, phase, value));
+        let r = Recovery { work, phase, ..r };
+        assert_eq!(recover_step(r, &mut whole), refused(r, value));
     }
-    let last = recover_step(Recovery { work: 7, phase: 9 }, &mut whole);
+    let last = recover_step(Recovery { work: 7, phase: 9, ..r }, &mut whole);
     assert_eq!((last.kind, last.value, last.recovery.phase), (DONE, 9, 0));
 }

@@ -6,10 +6,9 @@ use native.Mathlib.Nat.{add-sub-cancel-left}
 use native.Mathlib.Omega.{arith}
 use lib.ListN.{take, drop}
 use lib.Seq.{drop-drop, take-add, take-take}
-use lib.Dec.{eqb}
 use Rattle.rules.specs.Words.{digits}
 use Rattle.rules.specs.Check.{check, high, low}
-use Rattle.rules.specs.Runs.{covered, headCheck}
+use Rattle.rules.specs.Runs.{covered}
 use Rattle.sums.specs.Fed.{Below, Fed}
 use Rattle.sums.proofs.Fed.{high-append, low-append}
 use Rattle.stage.specs.View.{Reads, part, seen}
@@ -59,6 +58,6 @@ feeding-end {v = v} {p = p} f e = record { low-is = rw e at (f .low-is); high-is
 pub fed-pool : {a h : ℕ} (pool st : List ℕ) {k : ℕ} (from n : ℕ) {l g : ℕ} → k ≡ 0 → Fed a h (take (from + n - from) (drop from pool)) l g → Fed a h (part n from (seen pool st k)) l g
 fed-pool pool st from n e f = rw (e, seen-none pool st) (unfold part in (rw (add-sub-cancel-left from n) at f))
 
-pub intact-is : (a b : ℕ) {l g l′ g′ x y : ℕ} {body : List ℕ} → x ≡ headCheck (headOf a b) → Fed 1 0 (coveredBy a (b / 4294967296) []) l g → Fed l g body l′ g′ → y ≡ g′ * 65536 + l′
-    → eqb x y ≡ eqb (headCheck (headOf a b)) (check (covered (headOf a b) body))
-intact-is a b {body = body} e d f q = rw (e, q, covered-fed a (b / 4294967296) d f, head-covered a b body)
+-- the check of an object, by the head's sums and its body's
+pub check-fed : (a b : ℕ) {l g l′ g′ y : ℕ} {body : List ℕ} → Fed 1 0 (coveredBy a (b / 4294967296) []) l g → Fed l g body l′ g′ → y ≡ g′ * 65536 + l′ → y ≡ check (covered (headOf a b) body)
+check-fed a b {body = body} d f q = rw (q, covered-fed a (b / 4294967296) d f, head-covered a b body)

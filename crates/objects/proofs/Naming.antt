@@ -3,17 +3,16 @@ use Prim.Native.Nat.{ℕ, _+_, _-_, _*_, _≤_}
 use mathlib.Core.Path.{_≡_, refl, sym, ap, _∙_}
 use mathlib.Core.Bool.{Bool, true, false}
 use mathlib.Core.Option.{Option, some}
-use mathlib.Core.List.{List}
+use mathlib.Core.List.{List, _++_}
 use native.Mathlib.Omega.{arith}
-use lib.ListN.{length, take, drop}
-use lib.Seq.{drop-drop}
-use lib.Dec.{eqb}
+use lib.ListN.{length, take, drop, length-drop, take-append-drop}
+use lib.Seq.{drop-append-le, drop-drop}
 use Rattle.rules.specs.Test.{first}
-use Rattle.rules.specs.Check.{check}
-use Rattle.rules.specs.Runs.{Run, cellsFor, covered, free, headCells, headCheck, headLength, headTag, isFree, object, objectOk}
+use Rattle.rules.specs.Runs.{Run, cellsFor, free, goodIn, headCells, headLength, headTag, isFree, object, objectOk}
 use Rattle.rules.specs.Search.{runAt}
 use Rattle.rules.specs.Zones.{isDamaged, isObject}
 use Rattle.rules.proofs.Sets.{part-take}
+use Rattle.rules.proofs.Good.{good-local}
 use Rattle.rules.proofs.Laid.{Says, object-ok, object-says, read-says, says-cells, says-free, says-object, step-inv}
 use Rattle.rules.proofs.Segments.{cells-hold}
 use Rattle.stage.specs.View.{part}
@@ -48,7 +47,7 @@ pub record Heads (v : List ℕ) (from n a : ℕ) (h : List ℕ) (r : Run) : Type
   pub inside : a + headCells h ≤ n
 
 says-run : {h rest : List ℕ} {r : Run} → Says h rest r → isFree r ≡ false
-    → (r ≡ object (headCells h) (headTag h) (take (headLength h) rest) (eqb (headCheck h) (check (covered h (take (headLength h) rest))))) × (objectOk h ≡ true)
+    → (r ≡ object (headCells h) (headTag h) (take (headLength h) rest) (goodIn h rest)) × (objectOk h ≡ true)
 says-run (says-free s) e = absurd (let z : _≡_ {A = ℕ} 0 1 = cc in omega arith)
 says-run {h} (says-object s) e = (refl, object-ok h s)
 
@@ -62,15 +61,17 @@ passed-object {v} {from} {n} {a} {m} {after} {f} {h} d g k =
     let w = says-cells y in
     let q : take 16 (restOf v from n a) ≡ h = rest-head v from n a (omega (arith, d .within, d .some)) ∙ sym k in
     let b : 16 + headLength h ≤ 64 * m = rw (← q, ← (d .cells-is)) (w .1) in
+    let c : headCells h ≡ m = rw (← q, ← (d .cells-is)) (w .2) in
     let z : take (headLength h) (drop 16 (restOf v from n a)) ≡ take (headLength h) (drop (from + 64 * a + 16) v) =
     part-take 16 (headLength h) (64 * (n - a)) (drop (from + 64 * a) v) (omega (arith, d .within)) ∙ ap (take (headLength h)) (drop-drop 16 (from + 64 * a) v) in
+    let l : 64 * headCells h ≤ length (restOf v from n a) = rw (c, ← (d .cells-is)) (i .1) in
+    let more : List ℕ = drop (64 * (n - a)) (drop (from + 64 * a) v) in
+    let e : drop (from + 64 * a + 16) v ≡ drop 16 (restOf v from n a) ++ more =
+    sym (drop-drop 16 (from + 64 * a) v) ∙ ap (drop 16) (sym (take-append-drop (64 * (n - a)) (drop (from + 64 * a) v))) ∙ drop-append-le 16 (restOf v from n a) more (omega arith) in
+    let x : goodIn h (drop (from + 64 * a + 16) v) ≡ goodIn h (drop 16 (restOf v from n a)) =
+    ap (goodIn h) e ∙ good-local h (drop 16 (restOf v from n a)) more (omega arith) (rw (length-drop 16 (restOf v from n a)) (omega arith)) in
     let u = rw q at (says-run y (d .free-is ∙ g)) in
-    let c : headCells h ≡ m = sym (ap (λ (r : Run). cellsIn r) (u .0)) ∙ d .cells-is in
-    record { is = rw z at (u .0); ok = u .1; inside = omega (arith, d .within) }
-  where
-    cellsIn : Run → ℕ
-    cellsIn (free n) = n
-    cellsIn (object n t b g) = n
+    record { is = rw (z, ← x) at (u .0); ok = u .1; inside = omega (arith, d .within) }
 
 -- an object stands there, with the head h
 pub record Begins (v : List ℕ) (from n a : ℕ) (h : List ℕ) : Type 0 where
@@ -90,10 +91,11 @@ body-inside h a {m} {k} o e l =
     let q : headCells h ≡ cellsFor m = s .len ∙ ap cellsFor (sym e) in
     omega (arith, cells-hold m)
 
-module _ (v : List ℕ) (a : ℕ) (h : List ℕ) {x : Bool} {m : ℕ} (e : x ≡ eqb (headCheck h) (check (covered h (part m (a + 16) v)))) (j : m ≡ headLength h) where
-  pub object-good : x ≡ true → objectOk h ≡ true → {n t : ℕ} → n ≡ headCells h → t ≡ headTag h → a + 64 * headCells h ≤ length v → ObjectAt v a (some (objectRun v a h)) n m t
+module _ (v : List ℕ) (a : ℕ) (h : List ℕ) {x : Bool} (e : x ≡ goodIn h (drop (a + 16) v)) where
+  pub object-good : x ≡ true → objectOk h ≡ true → {n m t : ℕ} → n ≡ headCells h → m ≡ headLength h → t ≡ headTag h → a + 64 * headCells h ≤ length v
+      → ObjectAt v a (some (objectRun v a h)) n m t
   unfolding objectRun
-  object-good p k i q l =
+  object-good p k i j q l =
       let s = object-says h k in
       record {
         is = rw (← j, sym e ∙ p, i, q);
@@ -105,4 +107,4 @@ module _ (v : List ℕ) (a : ℕ) (h : List ℕ) {x : Bool} {m : ℕ} (e : x ≡
 
   pub object-damaged : x ≡ false → first (runTests (some (objectRun v a h))) ≡ some 25
   unfolding objectRun runTests first isObject isDamaged
-  object-damaged p = rw (← j, sym e ∙ p)
+  object-damaged p = rw (sym e ∙ p)

@@ -4,11 +4,9 @@ use mathlib.Core.Path.{_≡_}
 use mathlib.Core.Bool.{true, not}
 use mathlib.Core.Option.{Option, some}
 use mathlib.Core.List.{List, [], _∷_}
-use lib.ListN.{length}
-use lib.Dec.{eqb}
+use lib.ListN.{length, drop}
 use Rattle.rules.specs.Test.{Test, first, when}
-use Rattle.rules.specs.Check.{check}
-use Rattle.rules.specs.Runs.{Run, cellsFor, covered, headCells, headCheck, headLength, headTag, object}
+use Rattle.rules.specs.Runs.{Run, cellsFor, goodIn, headCells, headLength, headTag, object}
 use Rattle.rules.specs.Zones.{isDamaged, isObject}
 use Rattle.stage.specs.View.{part}
 use Rattle.objects.specs.declared.Named.{Named}
@@ -20,8 +18,7 @@ runTests o = when (not (isObject o)) 24 ∷ when (isDamaged o) 25 ∷ []
 
 -- The run with the object's head h at byte a.
 unfoldable pub objectRun : List ℕ → ℕ → List ℕ → Run
-objectRun v a h =
-    object (headCells h) (headTag h) (part (headLength h) (a + 16) v) (eqb (headCheck h) (check (covered h (part (headLength h) (a + 16) v))))
+objectRun v a h = object (headCells h) (headTag h) (part (headLength h) (a + 16) v) (goodIn h (drop (a + 16) v))
 
 -- A good object of n cells with the tag t, its head at byte a and m bytes of body behind it.
 pub record ObjectAt (v : List ℕ) (a : ℕ) (o : Option Run) (n m t : ℕ) : Type 0 where

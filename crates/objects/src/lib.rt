@@ -2,11 +2,11 @@
 ghost use mathlib.Core.Path.{_≡_};
 ghost use mathlib.Core.Bool.{true};
 ghost use mathlib.Core.Option.{some};
-ghost use Prim.Native.Nat.{_+_, _*_, _%_, _≤_, _<_};
-ghost use lib.ListN.{length};
-ghost use lib.Dec.{eqb};
-ghost use Rattle.rules.specs.Check.{check as checkOf};
-ghost use Rattle.rules.specs.Runs.{covered, headCells, headCheck, objectOk};
+ghost use Prim.Native.Nat.{_+_, _-_, _*_, _%_, _≤_, _<_};
+ghost use lib.ListN.{length, drop};
+ghost use Rattle.rules.specs.Words.{allZero};
+ghost use Rattle.rules.specs.Shape.{bodyLimit};
+ghost use Rattle.rules.specs.Runs.{cellsFor, goodIn, headCells, objectOk};
 ghost use Rattle.rules.specs.Search.{runAt};
 ghost use Rattle.sums.specs.Fed.{Below, Fed};
 ghost use Rattle.stage.specs.Index.{Indexed};
@@ -60,19 +60,40 @@ pub fn feed_part(
     )
 }
 
-// Whether the check in the head `h` at `at` is right over a body of `m` bytes.
-pub fn intact(
+// Whether the bytes of the run at `at` behind its body of `m` bytes are zero, as staged: the rest of the word in which the body ends, which is
+// nothing where it fills the word (so two shifts: none is by 64), then whole words. No way out before the end.
+fn zeros_behind(
     pool: &[u8],
     staging: &[u8],
     index: &[u8],
     count: usize,
-    h: Head,
     at: usize,
     m: usize,
 ) -> bool
-    requires { ⌜ Staged (now pool) (now staging) count × (at % 8 ≡ 0) × (at + 16 + m ≤ length (now pool)) × Indexed (now index) (now staging) count ⌝ }
-    ensures { λ r. ⌜ r ≡ eqb (headCheck (headOf (h .first) (h .second))) (checkOf (covered (headOf (h .first) (h .second)) (part m (at + 16) (seen (now (pool .entry)) (now (staging .entry)) count)))) ⌝ }
+    requires { ⌜ Staged (now pool) (now staging) count × (at % 8 ≡ 0) × (1 ≤ m) × (m ≤ bodyLimit) × (at + 64 * cellsFor m ≤ length (now pool)) × Indexed (now index) (now staging) count ⌝ }
+    ensures { λ r. ⌜ r ≡ allZero (part (64 * cellsFor m - (16 + m)) (at + 16 + m) (seen (now (pool .entry)) (now (staging .entry)) count)) ⌝ }
 {
+    let end = at + 64 * heads::cells_for(m);
+    let last = m - 1;
+    let word = at + 16 + last / 8 * 8;
+    let mut bits = stage::staged_word(pool, staging, index, count, word) >> (8 * (last % 8)) >> 8;
+    let mut i = word + 8;
+    while i < end {
+        bits = bits | stage::staged_word(pool, staging, index, count, i);
+        i += 8;
+    }
+    bits == 0
+}
+
+// Whether the object with the head `h` at `at` is good: its check is right, and the bytes behind its body are zero.
+pub fn intact(pool: &[u8], staging: &[u8], index: &[u8], count: usize, h: Head, at: usize) -> bool
+    requires { ⌜ Staged (now pool) (now staging) count × (at % 8 ≡ 0) × (at + 64 * headCells (headOf (h .first) (h .second)) ≤ length (now pool)) × (objectOk (headOf (h .first) (h .second)) ≡ true) × Indexed (now index) (now staging) count ⌝ }
+    ensures { λ r. ⌜ r ≡ goodIn (headOf (h .first) (h .second)) (drop (at + 16) (seen (now (pool .entry)) (now (staging .entry)) count)) ⌝ }
+{
+    let m = h.body();
+    if !zeros_behind(pool, staging, index, count, at, m) {
+        return false;
+    }
     let s = feed_part(pool, staging, index, count, h.sums(), at + 16, m);
     h.check() == s.value()
 }
@@ -82,9 +103,8 @@ fn object(pool: &[u8], staging: &[u8], index: &[u8], count: usize, h: Head, at: 
     requires { ⌜ Staged (now pool) (now staging) count × (at % 8 ≡ 0) × (at + 64 * headCells (headOf (h .first) (h .second)) ≤ length (now pool)) × (objectOk (headOf (h .first) (h .second)) ≡ true) × Indexed (now index) (now staging) count ⌝ }
     ensures { λ r. ⌜ Names (seen (now (pool .entry)) (now (staging .entry)) count) at (some (objectRun (seen (now (pool .entry)) (now (staging .entry)) count) at (headOf (h .first) (h .second)))) r ⌝ }
 {
-    let m = h.body();
-    if intact(pool, staging, index, count, h, at, m) {
-        return Named::Object(h.cells(), m, h.tag());
+    if intact(pool, staging, index, count, h, at) {
+        return Named::Object(h.cells(), h.body(), h.tag());
     }
     Named::Refused(25)
 }

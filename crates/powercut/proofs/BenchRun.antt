@@ -9,12 +9,12 @@ use mathlib.Core.Bool.{true, false}
 use mathlib.Core.List.{List, [], _∷_, _++_, Sublistᴰ·slnil, Sublistᴰ·cons}
 use native.Mathlib.Omega.{arith}
 use lib.ListN.{length, getD, replicate}
-use Rattle.rules.specs.Words.{ascii, digits, field, number, put, word}
+use Rattle.rules.specs.Words.{allZero, ascii, digits, field, number, put, word}
 use Rattle.rules.specs.Check.{check, high, low, reduced}
 use Rattle.rules.specs.Shape.{Shape, poolSize, row, zoneAt, zoneCells}
 use Rattle.rules.specs.Test.{first}
 use Rattle.rules.specs.Header.{differing, headerBytes, headerFront, headerId, headerOk, headerShape, idIn, inRange, openTests, pageAt, same, shapeIn, validHeader, within}
-use Rattle.rules.specs.Runs.{cellsFor, checkRun, fits, freeHead, freeOk, headBytes, nextRun, objectBytes, objectOk, onward, readRun, runOf, walk, zoneWalk}
+use Rattle.rules.specs.Runs.{cellsFor, checkRun, fits, freeHead, freeOk, goodIn, headBytes, nextRun, objectBytes, objectOk, onward, readRun, runOf, walk, zoneWalk}
 use Rattle.rules.specs.Book.{book, strike}
 use Rattle.rules.specs.Search.{joined, runAt}
 use Rattle.rules.specs.Zones.{bookFrom, isDamaged, isObject, objectTests, poolBook, runThere, walkIn, zoneData}
@@ -36,7 +36,7 @@ use Rattle.powercut.specs.Advance.{Moment, RunOn, acts, between, numberI
 
 -- Each definition that the run goes through, opened at once.
 opened : Unit {0}
-unfolding number digits field word put reduced low high check poolSize zoneCells zoneAt row first same within inRange headerFront headerBytes pageAt headerShape headerId headerOk validHeader shapeIn idIn differing openTests cellsFor freeOk objectOk runOf readRun fits checkRun nextRun onward walk zoneWalk headBytes freeHead objectBytes book strike joined runAt zoneData walkIn bookFrom poolBook bookOf isObject isDamaged runThere objectTests unsealed readTests touch touchWords commitLength pastCommit isLive impossible conclude isRefused touchFree joinedAt touchJoined plan entriesIn concludeStart transactionStart recordTests liveTests callTests staged call calls begun onTaken newBook newBooks sealOf commitSteps redo act keep isSeal commitList commitNext commitStart commitStep commitTests isCommitting nextPhase placeIn startAnswer startPhase stepAnswer madeAnswer made entries isStored commitMore commitOn between numberIn acts
+unfolding number digits field word put reduced low high check poolSize zoneCells zoneAt row first same within inRange headerFront headerBytes pageAt headerShape headerId headerOk validHeader shapeIn idIn differing openTests cellsFor freeOk objectOk allZero goodIn runOf readRun fits checkRun nextRun onward walk zoneWalk headBytes freeHead objectBytes book strike joined runAt zoneData walkIn bookFrom poolBook bookOf isObject isDamaged runThere objectTests unsealed readTests touch touchWords commitLength pastCommit isLive impossible conclude isRefused touchFree joinedAt touchJoined plan entriesIn concludeStart transactionStart recordTests liveTests callTests staged call calls begun onTaken newBook newBooks sealOf commitSteps redo act keep isSeal commitList commitNext commitStart commitStep commitTests isCommitting nextPhase placeIn startAnswer startPhase stepAnswer madeAnswer made entries isStored commitMore commitOn between numberIn acts
 opened = tt
 
 abbrev sh : Shape

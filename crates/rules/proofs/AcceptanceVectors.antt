@@ -10,12 +10,12 @@ use lib.Count.{ones, onesIn}
 use lib.IntN.{pos, negsuc}
 use lib.ListN.{length, take, drop, replicate, set}
 use lib.Seq.{sets}
-use Rattle.rules.specs.Words.{ascii, digits, field, number, put, word}
+use Rattle.rules.specs.Words.{allZero, ascii, digits, field, number, put, word}
 use Rattle.rules.specs.Check.{check, high, low, reduced, residue, updated}
 use Rattle.rules.specs.Shape.{Shape, byteAt, logA, logB, off, parityAt, poolSize, row, rowAt, zone, zoneAt, zoneCells}
 use Rattle.rules.specs.Test.{first}
 use Rattle.rules.specs.Header.{differing, headerBytes, headerFront, headerId, headerOk, headerShape, idIn, inRange, letters, openTests, pageAt, same, shapeIn, validHeader, within}
-use Rattle.rules.specs.Runs.{Run, Walk, cellsFor, checkRun, checkWord, fits, free, freeHead, freeOk, headBytes, nextRun, object, objectBytes, objectOk, onward, readRun, runOf, walk, zoneWalk}
+use Rattle.rules.specs.Runs.{Run, Walk, behindBody, cellsFor, checkRun, checkWord, fits, free, freeHead, freeOk, goodIn, headBytes, nextRun, object, objectBytes, objectOk, onward, readRun, runOf, walk, zoneWalk}
 use Rattle.rules.specs.Book.{Listed, book, enter, find, overwrite, strike}
 use Rattle.rules.specs.Search.{Place, fit, joined, runAt}
 use Rattle.rules.specs.Zones.{allGood, bodyOf, bookFrom, goodFrom, headAt, isDamaged, isObject, objectTests, poolBook, runThere, runsFrom, walkIn, zoneData}
@@ -35,7 +35,7 @@ use Rattle.rules.specs.Scan.{brokenLine, columnsLine, concludeScan, deci
 
 -- Each definition of the rules that computes, opened at once.
 opened : Unit {0}
-unfolding number digits field word put reduced low high check updated poolSize zoneCells zoneAt byteAt zone row off rowAt first same within inRange headerFront headerBytes pageAt headerShape headerId headerOk validHeader shapeIn idIn differing openTests cellsFor freeOk objectOk runOf readRun fits checkRun nextRun onward walk zoneWalk headBytes freeHead objectBytes checkWord book enter strike overwrite find fit runAt joined zoneData walkIn runsFrom bookFrom poolBook allGood goodFrom runThere isObject isDamaged bodyOf headAt objectTests unsealed readTests touch touchWords wordFrom wordCount touchRange isLive commitLength pastCommit impossible conclude concludePool fitIn search fitTest fitAddress touchFree touchObject touchWrite joinedAt touchJoined plan entriesIn concludeStart transactionStart recordTests liveTests callTests staged call calls begun onAddress onTaken newBook newBooks xorTo parityWord tabFrom repaired anyAbove anyTwo repairTests mended countRuns countTo allTo sumTo columnRight wrongColumns brokenZones objectsMet damagedMet freshZone freshZones freshPool formatTests decimalTo decimal quality runText runLine brokenLine zoneLines zonesText poolLine columnsLine poolText scanTests concludeScan poolscan lookTests concludeLook look seen mendHeader concludeScrub scrub ones onesIn
+unfolding number digits field word put reduced low high check updated poolSize zoneCells zoneAt byteAt zone row off rowAt first same within inRange headerFront headerBytes pageAt headerShape headerId headerOk validHeader shapeIn idIn differing openTests cellsFor freeOk objectOk allZero goodIn runOf readRun fits checkRun nextRun onward walk zoneWalk headBytes freeHead objectBytes checkWord book enter strike overwrite find fit runAt joined zoneData walkIn runsFrom bookFrom poolBook allGood goodFrom runThere isObject isDamaged bodyOf headAt objectTests unsealed readTests touch touchWords wordFrom wordCount touchRange isLive commitLength pastCommit impossible conclude concludePool fitIn search fitTest fitAddress touchFree touchObject touchWrite joinedAt touchJoined plan entriesIn concludeStart transactionStart recordTests liveTests callTests staged call calls begun onAddress onTaken newBook newBooks xorTo parityWord tabFrom repaired anyAbove anyTwo repairTests mended countRuns countTo allTo sumTo columnRight wrongColumns brokenZones objectsMet damagedMet freshZone freshZones freshPool formatTests decimalTo decimal quality runText runLine brokenLine zoneLines zonesText poolLine columnsLine poolText scanTests concludeScan poolscan lookTests concludeLook look seen mendHeader concludeScrub scrub ones onesIn
 opened = tt
 
 abbrev shape : ℕ → ℕ → ℕ → ℕ → Shape
@@ -296,10 +296,33 @@ pub zoneWalk-damaged :
 unfolding opened
 zoneWalk-damaged = (refl, refl, refl, refl)
 
--- The bytes behind the body are not covered by the check.
-pub zoneWalk-rest : zoneWalk (set objectA 17 1 ++ freeRun 3) ≡ found (runA ∷ free 3 ∷ []) true
+-- Likewise: the first byte behind the body is not zero; the last one before the run's end.
+pub zoneWalk-stray :
+    (zoneWalk (set objectA 17 1 ++ freeRun 3) ≡ found (object 1 5 (ascii "a") false ∷ free 3 ∷ []) true)
+    × (zoneWalk (set objectB 127 1 ++ freeRun 3) ≡ found (object 2 7 (replicate 49 0x62) false ∷ free 3 ∷ []) true)
 unfolding opened
-zoneWalk-rest = refl
+zoneWalk-stray = (refl, refl)
+
+-- How many bytes stand behind a body of m bytes, up to its last cell's end.
+abbrev countBehind : ℕ → ℕ
+countBehind m = length (behindBody (take 16 (objectBytes 5 (replicate m 1))) (drop 16 (objectBytes 5 (replicate m 1))))
+
+pub behindBody-lengths :
+    (countBehind 1 ≡ 47) × (countBehind 47 ≡ 1) × (countBehind 48 ≡ 0) × (countBehind 49 ≡ 63) × (countBehind 112 ≡ 0) × (countBehind 113 ≡ 63)
+    × (countBehind 495 ≡ 1) × (countBehind 496 ≡ 0)
+unfolding opened
+behindBody-lengths = (refl, refl, refl, refl, refl, refl, refl, refl)
+
+-- An object with a body of m bytes, 64 bytes behind its run, and its byte i changed to 1.
+abbrev goodWith : ℕ → ℕ → Bool
+goodWith m i = goodIn (take 16 (objectBytes 5 (replicate m 0))) (drop 16 (set (objectBytes 5 (replicate m 0) ++ replicate 64 0) i 1))
+
+-- The first byte behind the body, the last before the run's end, and the one right behind the run, which leaves it good.
+pub goodIn-limits :
+    (goodWith 1 17 ≡ false) × (goodWith 1 63 ≡ false) × (goodWith 1 64 ≡ true) × (goodWith 47 63 ≡ false) × (goodWith 47 64 ≡ true) × (goodWith 48 64 ≡ true)
+    × (goodWith 49 65 ≡ false) × (goodWith 49 127 ≡ false) × (goodWith 49 128 ≡ true) × (goodWith 495 511 ≡ false) × (goodWith 495 512 ≡ true) × (goodWith 496 512 ≡ true)
+unfolding opened
+goodIn-limits = (refl, refl, refl, refl, refl, refl, refl, refl, refl, refl, refl, refl)
 
 -- Broken at cell 1, behind an object that is kept: a head with the right check, and any bytes behind it up to three cells.
 abbrev behind : List ℕ → Walk

@@ -5,12 +5,12 @@ use mathlib.Core.Option.{none, some}
 use mathlib.Core.List.{List, [], _∷_, _++_}
 use lib.ListN.{length, replicate, take}
 use lib.Seq.{sets}
-use Rattle.rules.specs.Words.{digits, field, number, put, word}
+use Rattle.rules.specs.Words.{allZero, digits, field, number, put, word}
 use Rattle.rules.specs.Check.{check, high, low, reduced, updated}
 use Rattle.rules.specs.Shape.{Shape, byteAt, off, poolSize, row, rowAt, zone, zoneAt, zoneCells}
 use Rattle.rules.specs.Test.{first}
 use Rattle.rules.specs.Header.{differing, headerBytes, headerFront, headerId, headerOk, headerShape, idIn, inRange, openTests, pageAt, same, shapeIn, validHeader, within}
-use Rattle.rules.specs.Runs.{cellsFor, checkRun, checkWord, fits, freeHead, freeOk, headBytes, headCheck, nextRun, objectBytes, objectOk, onward, readRun, runOf, walk, zoneWalk}
+use Rattle.rules.specs.Runs.{cellsFor, checkRun, checkWord, fits, freeHead, freeOk, goodIn, headBytes, headCheck, nextRun, objectBytes, objectOk, onward, readRun, runOf, walk, zoneWalk}
 use Rattle.rules.specs.Search.{runAt}
 use Rattle.rules.specs.Zones.{bodyOf, headAt, isDamaged, isObject, objectTests, runThere, walkIn, zoneData}
 use Rattle.rules.specs.Seals.{readTests, unsealed}
@@ -66,6 +66,6 @@ pub examples :
     -- data bytes hex 0F and F0: parity FF, as the parity word and as the one byte with which the column's parity is right
     × (parityWord bench (withColumn 0x0F 0xF0 0) 4608 ≡ 0xFF)
     × (columnByte bench (withColumn 0x0F 0xF0 0xFF) 0 0 ≡ 0) × ((b : ℕ) → columnByte bench (withColumn 0x0F 0xF0 b) 0 0 ≡ 0 → b ≡ 0xFF)
-unfolding number digits field word put check low high reduced updated byteAt zone row off rowAt zoneAt poolSize zoneCells first same within inRange headerFront headerBytes pageAt headerShape headerId headerOk validHeader shapeIn idIn differing openTests cellsFor freeOk objectOk runOf readRun fits checkRun nextRun onward walk zoneWalk headBytes freeHead objectBytes checkWord runAt zoneData walkIn bodyOf isObject isDamaged runThere headAt objectTests unsealed readTests touch touchWords wordFrom wordCount touchRange isLive pastCommit impossible conclude touchWrite plan entriesIn concludeStart transactionStart recordTests liveTests callTests staged call begun xorTo parityWord freshZone freshZones freshPool front firstRow objectPool
+unfolding number digits field word put check low high reduced updated byteAt zone row off rowAt zoneAt poolSize zoneCells first same within inRange headerFront headerBytes pageAt headerShape headerId headerOk validHeader shapeIn idIn differing openTests cellsFor freeOk objectOk allZero goodIn runOf readRun fits checkRun nextRun onward walk zoneWalk headBytes freeHead objectBytes checkWord runAt zoneData walkIn bodyOf isObject isDamaged runThere headAt objectTests unsealed readTests touch touchWords wordFrom wordCount touchRange isLive pastCommit impossible conclude touchWrite plan entriesIn concludeStart transactionStart recordTests liveTests callTests staged call begun xorTo parityWord freshZone freshZones freshPool front firstRow objectPool
 examples =
     (refl, refl, refl, refl, refl, refl, refl, refl, refl, refl, refl, refl, refl, refl, refl, refl, refl, refl, refl, λ b e. sym (xor-zero-eq 0xFF b e))

@@ -9,12 +9,12 @@ use native.Mathlib.Nat.{zero-add, suc-add}
 use native.Mathlib.Omega.{arith}
 use lib.ListN.{length, take, drop, length-append, length-drop, take-append-drop}
 use lib.Seq.{take-append-le, drop-append-le, drop-at, length-take-le}
-use lib.Dec.{eqb}
 use borrow.Author.Tests.{leb-true, eqb-true, not-true, le-leb, eq-eqb}
 use Rattle.rules.specs.Check.{check}
 use Rattle.rules.specs.Shape.{bodyLimit}
-use Rattle.rules.specs.Runs.{Next, Run, Walk, broken, cellCount, cells, cellsFor, checkRun, covered, ended, fits, free, freeOk, headCells, headCheck, headKind, headLength, headTag, isFree, nextRun, object, objectOk, onward, readRun, run, runOf, walk, zoneWalk}
+use Rattle.rules.specs.Runs.{Next, Run, Walk, broken, cellCount, cells, cellsFor, checkRun, covered, ended, fits, free, freeOk, goodIn, headCells, headCheck, headKind, headLength, headTag, isFree, nextRun, object, objectOk, onward, readRun, run, runOf, walk, zoneWalk}
 use Rattle.rules.proofs.Bool.{and-join, and-split}
+use Rattle.rules.proofs.Good.{good-local}
 
 -- ---- what a head that is taken says
 
@@ -61,7 +61,7 @@ object-ok h s =
 -- a head and the bytes behind it, as the run r
 pub data Says (h rest : List ℕ) : Run → Type 0 where
   says-free : FreeSays h → Says h rest (free (headCells h))
-  says-object : ObjectSays h → Says h rest (object (headCells h) (headTag h) (take (headLength h) rest) (eqb (headCheck h) (check (covered h (take (headLength h) rest)))))
+  says-object : ObjectSays h → Says h rest (object (headCells h) (headTag h) (take (headLength h) rest) (goodIn h rest))
 
 pub run-says : (h rest : List ℕ) (r : Run) → runOf h rest ≡ some r → Says h rest r
 unfolding runOf
@@ -69,13 +69,13 @@ run-says h rest r e = go (freeOk h) (objectOk h) refl refl e
   where
     go : (f o : Bool) → freeOk h ≡ f → objectOk h ≡ o
         → cond f (some (free (headCells h)))
-        (cond o (some (object (headCells h) (headTag h) (take (headLength h) rest) (eqb (headCheck h) (check (covered h (take (headLength h) rest)))))) none) ≡ some r
+        (cond o (some (object (headCells h) (headTag h) (take (headLength h) rest) (goodIn h rest))) none) ≡ some r
         → Says h rest r
     go true o p q e = subst (λ (x : Run). Says h rest x) (Option·some-injective _ _ e) (says-free (free-says h p))
     go false true p q e = subst (λ (x : Run). Says h rest x) (Option·some-injective _ _ e) (says-object (object-says h q))
     go false false p q e = absurd (Option·none-ne-some _ e)
 
-pub says-cells : {h rest : List ℕ} {r : Run} → Says h rest r → (1 ≤ cells r) × (16 + headLength h ≤ 64 * cells r)
+pub says-cells : {h rest : List ℕ} {r : Run} → Says h rest r → (1 ≤ cells r) × (16 + headLength h ≤ 64 * cells r) × (headCells h ≡ cells r)
 unfolding cellsFor
 says-cells (says-free s) = omega arith
 says-cells (says-object s) = omega arith
@@ -90,27 +90,32 @@ pub read-says : (bs : List ℕ) (r : Run) → readRun bs ≡ some r → Says (ta
 unfolding readRun
 read-says bs r e = run-says (take 16 bs) (drop 16 bs) r e
 
-pub seg-cells : {r : Run} {s : List ℕ} → Seg r s → (1 ≤ cells r) × (16 + headLength (take 16 s) ≤ 64 * cells r)
+pub seg-cells : {r : Run} {s : List ℕ} → Seg r s → (1 ≤ cells r) × (16 + headLength (take 16 s) ≤ 64 * cells r) × (headCells (take 16 s) ≡ cells r)
 seg-cells {r} {s} g = says-cells (read-says s r (g .read))
 
 -- bytes behind a run are not read
-read-local : (u v : List ℕ) → 16 + headLength (take 16 u) ≤ length u → readRun (u ++ v) ≡ readRun u
+read-local : (u v : List ℕ) → 16 + headLength (take 16 u) ≤ 64 * headCells (take 16 u) → 64 * headCells (take 16 u) ≤ length u → readRun (u ++ v) ≡ readRun u
 unfolding readRun runOf
-read-local u v h =
-    rw (take-append-le 16 u v (omega arith), drop-append-le 16 u v (omega arith), take-append-le (headLength (take 16 u)) (drop 16 u) v (rw (length-drop 16 u) (omega arith)))
+read-local u v h k =
+    rw (
+      take-append-le 16 u v (omega arith),
+      drop-append-le 16 u v (omega arith),
+      take-append-le (headLength (take 16 u)) (drop 16 u) v (rw (length-drop 16 u) (omega arith)),
+      good-local (take 16 u) (drop 16 u) v h (rw (length-drop 16 u) (omega arith)),
+    )
 
 pub read-append : {r : Run} {s : List ℕ} → Seg r s → (t : List ℕ) → readRun (s ++ t) ≡ some r
-read-append {r} {s} g t = read-local s t (omega (arith, seg-cells g)) ∙ g .read
+read-append {r} {s} g t = read-local s t (omega (arith, seg-cells g)) (omega (arith, seg-cells g, g .len)) ∙ g .read
 
 pub read-take : (bs : List ℕ) (r : Run) → readRun bs ≡ some r → 64 * cells r ≤ length bs → Seg r (take (64 * cells r) bs)
 read-take bs r e h =
-    let f : (1 ≤ cells r) × (16 + headLength (take 16 bs) ≤ 64 * cells r) = says-cells (read-says bs r e) in
+    let f = says-cells (read-says bs r e) in
     let u : List ℕ = take (64 * cells r) bs in
     let v : List ℕ = drop (64 * cells r) bs in
     let l : length u ≡ 64 * cells r = length-take-le (64 * cells r) bs h in
     let c : u ++ v ≡ bs = take-append-drop (64 * cells r) bs in
     let k : take 16 u ≡ take 16 bs = sym (take-append-le 16 u v (omega arith)) ∙ ap (λ (x : List ℕ). take 16 x) c in
-    record { read = sym (read-local u v (rw (k, l) (f .1))) ∙ ap readRun c ∙ e; len = l }
+    record { read = sym (read-local u v (rw k (omega (arith, f))) (rw k (omega (arith, f)))) ∙ ap readRun c ∙ e; len = l }
 
 -- ---- runs one behind the other
 

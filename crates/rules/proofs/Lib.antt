@@ -13,6 +13,7 @@ pub mod Shape
 pub mod Stores
 pub mod Repair
 pub mod Check
+pub mod Good
 pub mod Laid
 pub mod Segments
 pub mod Book

@@ -8,12 +8,12 @@ use native.Mathlib.Omega.{arith}
 use lib.Bits.{bitXor, xor-self, xor-zero-l, xor-zero-r}
 use lib.ListN.{length, getD, replicate, List·getD-append, length-replicate}
 use lib.Seq.{getD-append-add}
-use Rattle.rules.specs.Words.{ascii, digits, field, number, word}
+use Rattle.rules.specs.Words.{allZero, ascii, digits, field, number, word}
 use Rattle.rules.specs.Check.{check, high, low, reduced}
 use Rattle.rules.specs.Shape.{byteAt, poolSize, zoneAt, zoneCells}
 use Rattle.rules.specs.Test.{first}
 use Rattle.rules.specs.Header.{differing, headerBytes, headerFront, headerId, headerOk, headerShape, inRange, openTests, pageAt, same, shapeIn, validHeader, within}
-use Rattle.rules.specs.Runs.{cellsFor, checkRun, fits, freeHead, freeOk, headBytes, nextRun, objectBytes, objectOk, onward, readRun, runOf, walk, zoneWalk}
+use Rattle.rules.specs.Runs.{cellsFor, checkRun, fits, freeHead, freeOk, goodIn, headBytes, nextRun, objectBytes, objectOk, onward, readRun, runOf, walk, zoneWalk}
 use Rattle.rules.specs.Zones.{walkIn, zoneData}
 use Rattle.rules.specs.Seals.{readTests, unsealed}
 use Rattle.rules.specs.Parity.{Parity, xorTo}
@@ -71,7 +71,7 @@ unfolding objectPool front firstRow same within inRange headerFront headerBytes 
 shape-is = refl
 
 zone-is : zonesText bench objectPool 0 1 ≡ ascii "(run 0 0 (object 5 1 good))\n(run 0 1 (free 15))\n"
-unfolding objectPool front firstRow zonesText zoneLines runLine runText quality decimal decimalTo walkIn zoneData zoneAt zoneCells zoneWalk walk onward nextRun checkRun fits readRun runOf freeOk objectOk number digits field check low high reduced headerFront headerBytes headBytes freeHead objectBytes cellsFor
+unfolding objectPool front firstRow zonesText zoneLines runLine runText quality decimal decimalTo walkIn zoneData zoneAt zoneCells zoneWalk walk onward nextRun checkRun fits readRun runOf freeOk objectOk allZero goodIn number digits field check low high reduced headerFront headerBytes headBytes freeHead objectBytes cellsFor
 zone-is = refl
 
 pub scan-example : poolscan objectPool ≡ ascii "(pool 2 2 1)\n(run 0 0 (object 5 1 good))\n(run 0 1 (free 15))\n(columns (off 0))\n"

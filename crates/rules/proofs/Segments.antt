@@ -5,16 +5,17 @@ use mathlib.Core.Bool.{Bool, true}
 use mathlib.Core.Option.{some}
 use mathlib.Core.List.{List, [], _++_, append-nil}
 use native.Mathlib.Omega.{arith}
-use lib.ListN.{length, take, drop, replicate, drop-of-length-le, length-append, length-take, length-drop, take-append-drop, length-replicate}
+use lib.ListN.{length, take, drop, getD, replicate, drop-of-length-le, length-append, length-take, length-drop, take-append-drop, length-replicate, List·getD-eq-default}
 use lib.Seq.{drop-drop, take-all, take-at, drop-at, length-take-le, sets, sets-eq, length-sets}
-use borrow.Author.Tests.{eq-eqb}
 use Rattle.rules.specs.Words.{Bytes, digits, field, number}
 use Rattle.rules.specs.Check.{check}
 use Rattle.rules.specs.Shape.{bodyLimit}
-use Rattle.rules.specs.Runs.{Run, cellsFor, checkWord, covered, free, freeHead, freeOk, headBytes, headCells, headCheck, headKind, headLength, headTag, object, objectBytes, readRun, runOf}
+use Rattle.rules.specs.Runs.{Run, cellsFor, checkWord, covered, free, freeHead, freeOk, goodIn, headBytes, headCells, headCheck, headKind, headLength, headTag, object, objectBytes, readRun, runOf}
 use Rattle.rules.proofs.Words.{bytes-append, bytes-drop, bytes-left, bytes-right, bytes-sets, bytes-take, bytes-zeros, digits-byte, field-part, length-digits, number-digits}
 use Rattle.rules.proofs.Sets.{part-take, sets-left, sets-mid}
 use Rattle.rules.proofs.Check.{check-lt}
+use Rattle.rules.proofs.Zeros.{then-zeros}
+use Rattle.rules.proofs.Good.{good-is, good-written}
 use Rattle.rules.proofs.Laid.{ObjectSays, Says, Seg, free-ok, object-ok, read-says, says-free, says-object, seg-cells}
 
 -- a body and its head lie in its cells
@@ -90,11 +91,11 @@ seg-free n rest p s e =
       len = length-append h rest ∙ rw (head-length 1 n 0 0 []) e;
     }
 
--- a head of the kind object, with the right check
-run-object : (h rest b : List ℕ) (n t : ℕ) → ObjectSays h → headCells h ≡ n → headTag h ≡ t → take (headLength h) rest ≡ b → headCheck h ≡ check (covered h b)
+-- the head of a good object
+run-object : (h rest b : List ℕ) (n t : ℕ) → ObjectSays h → headCells h ≡ n → headTag h ≡ t → take (headLength h) rest ≡ b → goodIn h rest ≡ true
     → runOf h rest ≡ some (object n t b true)
 unfolding runOf freeOk
-run-object h rest b n t s en et eb ec = rw (s .kind, object-ok h s, en, et, eb, eq-eqb _ _ ec)
+run-object h rest b n t s en et eb eg = rw (s .kind, object-ok h s, en, et, eb, eg)
 
 -- a new object
 pub seg-object : (t : ℕ) (b : List ℕ) → t < 2 ^ 32 → Bytes b → 1 ≤ length b → length b ≤ bodyLimit → Seg (object (cellsFor (length b)) t b true) (objectBytes t b)
@@ -106,11 +107,14 @@ seg-object t b ht hb p q =
     let z : List ℕ = replicate (64 * n - (16 + m)) 0 in
     let em : headLength h ≡ m = head-blen 2 n m t b (omega arith) in
     let en : headCells h ≡ n = head-len 2 n m t b (unfold cellsFor in (omega arith)) in
+    let eb : take (headLength h) (b ++ z) ≡ b = rw em (take-at b z m refl) in
+    let past : (i : ℕ) → headLength h ≤ i → 16 + i < 64 * headCells h → getD (b ++ z) i 0 ≡ 0 =
+    λ i l k. then-zeros b (64 * n - (16 + m)) i ∙ List·getD-eq-default b 0 (omega arith) in
     record {
       read = rw (take-at h (b ++ z) 16 (head-length 2 n m t b), drop-at h (b ++ z) 16 (head-length 2 n m t b))
           (run-object h (b ++ z) b n t
           (record { kind = head-kind 2 n m t b (omega arith); some = rw em p; most = rw em q; len = en ∙ ap cellsFor (sym em) })
-          en (head-tag 2 n m t b ht) (rw em (take-at b z m refl)) (head-chk 2 n m t b hb));
+          en (head-tag 2 n m t b ht) eb (good-is h (b ++ z) .1 (record { chk = rw eb (head-chk 2 n m t b hb); zero = past })));
       len = length-append h (b ++ z) ∙ rw (head-length 2 n m t b, length-append b z, length-replicate {A = ℕ} (64 * n - (16 + m)) 0) (omega (arith, cells-hold m));
     }
 
@@ -128,9 +132,10 @@ same-front h k e s =
     let c : headLength h ≡ headLength k = f 4 4 (omega arith) in
     (record { kind = a ∙ s .kind; some = rw c (s .some); most = rw c (s .most); len = b ∙ s .len ∙ ap cellsFor (sym c) }, b, c)
 
--- what a good object's bytes are
+-- what an object's bytes are
 pub record ObjectSeg (n t : ℕ) (b s : List ℕ) : Type 0 where
   pub pad : List ℕ
+  pub rest : drop 16 s ≡ b ++ pad
   pub cut : s ≡ take 16 s ++ (b ++ pad)
   pub says : ObjectSays (take 16 s)
   pub len : headCells (take 16 s) ≡ n
@@ -139,9 +144,13 @@ pub record ObjectSeg (n t : ℕ) (b s : List ℕ) : Type 0 where
   pub long : 16 + length b ≤ length s
 
 says-inv : {h rest : List ℕ} {r : Run} → Says h rest r → (n t : ℕ) (b : List ℕ) (g : Bool) → r ≡ object n t b g
-    → (ObjectSays h) × (headCells h ≡ n) × (headTag h ≡ t) × (take (headLength h) rest ≡ b)
+    → (ObjectSays h) × (headCells h ≡ n) × (headTag h ≡ t) × (take (headLength h) rest ≡ b) × (goodIn h rest ≡ g)
 says-inv (says-free s) n t b g e = absurd (let z : _≡_ {A = ℕ} 0 1 = cc in omega arith)
-says-inv (says-object s) n t b g e = (s, cc, cc, cc)
+says-inv (says-object s) n t b g e = (s, cc, cc, cc, cc)
+
+-- whether it is good
+pub seg-good : {n t : ℕ} {b : List ℕ} {g : Bool} {s : List ℕ} → Seg (object n t b g) s → goodIn (take 16 s) (drop 16 s) ≡ g
+seg-good {n} {t} {b} {g} {s} q = says-inv (read-says s (object n t b g) (q .read)) n t b g refl .4
 
 pub seg-inv : (n t : ℕ) (b : List ℕ) (g : Bool) (s : List ℕ) → Seg (object n t b g) s → ObjectSeg n t b s
 unfolding cellsFor
@@ -150,15 +159,23 @@ seg-inv n t b g s q =
     let m : ℕ = headLength (take 16 s) in
     let k : 16 + m ≤ length s = omega (arith, seg-cells q, q .len) in
     let eb : m ≡ length b = sym (ap length (sym (i .3)) ∙ length-take-le m (drop 16 s) (rw (length-drop 16 s) (omega arith))) in
+    let r : drop 16 s ≡ b ++ drop m (drop 16 s) = sym (take-append-drop m (drop 16 s)) ∙ ap (λ (x : List ℕ). x ++ drop m (drop 16 s)) (i .3) in
     record {
       pad = drop m (drop 16 s);
-      cut = sym (take-append-drop 16 s) ∙ ap (λ (x : List ℕ). take 16 s ++ x) (sym (take-append-drop m (drop 16 s)) ∙ ap (λ (x : List ℕ). x ++ drop m (drop 16 s)) (i .3));
+      rest = r;
+      cut = sym (take-append-drop 16 s) ∙ ap (λ (x : List ℕ). take 16 s ++ x) r;
       says = i .0;
       len = i .1;
       tag = i .2;
       blen = eb;
       long = omega arith;
     }
+
+-- a good one has the right check
+pub seg-right : {n t : ℕ} {b s : List ℕ} → Seg (object n t b true) s → headCheck (take 16 s) ≡ check (covered (take 16 s) b)
+seg-right {n} {t} {b} {s} q =
+    let i = seg-inv n t b true s q in
+    good-is (take 16 s) (drop 16 s) .0 (seg-good q) .chk ∙ ap (λ (x : List ℕ). check (covered (take 16 s) x)) (rw (i .rest, i .blen) (take-at b (i .pad) (length b) refl))
 
 pub length-checkWord : (h b : List ℕ) → 16 ≤ length h → length (checkWord h b) ≡ 8
 unfolding checkWord
@@ -218,11 +235,11 @@ module _ (h b : List ℕ) (eh : length h ≡ 16) where
       (sym (drop-drop 4 8 head-again) ∙ ap (λ (x : List ℕ). drop 4 x) again-back ∙ drop-at (digits 4 (check (covered h b))) (take 4 (drop 12 h)) 4 (length-digits 4 _))
       ∙ take-all 4 (take 4 (drop 12 h)) (rw (length-take 4 (drop 12 h)) (omega arith))
 
-pub seg-write : (n t : ℕ) (b : List ℕ) (g : Bool) (s : List ℕ) → Seg (object n t b g) s → (o : ℕ) (xs : List ℕ) → o + length xs ≤ length b → Bytes s → Bytes xs
+pub seg-write : (n t : ℕ) (b s : List ℕ) → Seg (object n t b true) s → (o : ℕ) (xs : List ℕ) → o + length xs ≤ length b → Bytes s → Bytes xs
     → Seg (object n t (sets b o xs) true) (sets (sets s (16 + o) xs) 8 (checkWord (take 16 s) (sets b o xs)))
 unfolding readRun
-seg-write n t b g s q o xs fit hs hx =
-    let i = seg-inv n t b g s q in
+seg-write n t b s q o xs fit hs hx =
+    let i = seg-inv n t b true s q in
     let h : List ℕ = take 16 s in
     let eh : length h ≡ 16 = length-take-le 16 s (omega (arith, i .long)) in
     let c : List ℕ = sets b o xs in
@@ -239,7 +256,8 @@ seg-write n t b g s q o xs fit hs hx =
     let read-k : runOf k (c ++ i .pad) ≡ some (object n t c true) =
     run-object k (c ++ i .pad) c n t (f .0) (f .1 ∙ i .len) (field-part 4 k 12 ∙ ap (λ (x : List ℕ). field 4 x 0) (again-tag h c eh) ∙ sym (field-part 4 h 12) ∙ i .tag)
     (rw (f .2 ∙ i .blen) (take-at c (i .pad) (length b) (length-sets b o xs)))
-    (again-chk h c eh hh hc ∙ sym (ap₂ (λ (x y : List ℕ). check (x ++ (y ++ c))) (again-front h c eh) (again-tag h c eh))) in
+    (good-written h k b c (i .pad) (f .1) (f .2) (i .blen) (length-sets b o xs) (rw (i .rest) at (seg-good q))
+    (again-chk h c eh hh hc ∙ sym (ap₂ (λ (x y : List ℕ). check (x ++ (y ++ c))) (again-front h c eh) (again-tag h c eh)))) in
     record {
       read = rw (e2, take-at k (c ++ i .pad) 16 (again-length h c eh), drop-at k (c ++ i .pad) 16 (again-length h c eh)) read-k;
       len = length-sets (sets s (16 + o) xs) 8 w ∙ length-sets s (16 + o) xs ∙ q .len;

@@ -49,15 +49,15 @@ module _ (c : ℕ) (P Q : List Run) (n t : ℕ) (b : List ℕ) (g : Bool) (o : �
         sets-mid f (sets m (16 + o) xs) z (64 * cellCount P) 8 w lf (rw (length-sets m (16 + o) xs, lw) (omega arith)),
       )
 
-  new-laid : (bs : List ℕ) → Bytes bs → Bytes xs → Laid false (P ++ ((old ∷ []) ++ Q)) bs → Laid false (P ++ ((new ∷ []) ++ Q)) (writeBytes bs (cellCount P) b o xs)
+  new-laid : (bs : List ℕ) → g ≡ true → Bytes bs → Bytes xs → Laid false (P ++ ((old ∷ []) ++ Q)) bs → Laid false (P ++ ((new ∷ []) ++ Q)) (writeBytes bs (cellCount P) b o xs)
   unfolding ends
-  new-laid bs hb hx l =
+  new-laid bs eg hb hx l =
       let p = parts false P (old ∷ []) Q bs l in
       let s : Seg old (p .mid) = laid-one (p .laid-mid) in
       let hm : Bytes (p .mid) = bytes-left (p .mid) (p .back) (bytes-right (p .front) (p .mid ++ p .back) (rw (p .cut) at hb)) in
       let ns : List ℕ = sets (sets (p .mid) (16 + o) xs) 8 (checkWord (take 16 (p .mid)) (sets b o xs)) in
       rw (new-bytes bs (p .front) (p .mid) (p .back) (p .cut) (laid-length (p .laid-front)) (seg-inv n t b g (p .mid) s .long))
-      (splice false P (old ∷ []) Q (new ∷ []) bs ns p (more (seg-write n t b g (p .mid) s o xs fit hm hx) (and-false (ends false P)) ended-here (sym (append-nil ns))) refl)
+      (splice false P (old ∷ []) Q (new ∷ []) bs ns p (more (seg-write n t b (p .mid) (subst (λ (x : Bool). Seg (object n t b x) (p .mid)) eg s) o xs fit hm hx) (and-false (ends false P)) ended-here (sym (append-nil ns))) refl)
 
   new-book : Pos P → book c (P ++ ((new ∷ []) ++ Q)) ≡ overwrite (c + cellCount P) o xs (book c (P ++ ((old ∷ []) ++ Q)))
   unfolding book overwrite
@@ -81,11 +81,12 @@ written a rs bs n t b g o xs l h e fit hb hx =
     go P Q cut here =
         let q : cellCount P ≡ a = omega arith in
         let l1 : Laid false (P ++ (object n t b g ∷ Q)) bs = rw cut at l in
+        let here-on = good-right P (object n t b g ∷ Q) (rw cut at h) in
         rw (← q, cut)
         (record {
           runs = P ++ (object n t (sets b o xs) true ∷ Q);
-          laid = new-laid 0 P Q n t b g o xs fit bs hb hx l1;
-          good = good-append P (object n t (sets b o xs) true ∷ Q) (good-left P _ (rw cut at h)) (refl, good-right P (object n t b g ∷ Q) (rw cut at h) .1);
+          laid = new-laid 0 P Q n t b g o xs fit bs (here-on .0) hb hx l1;
+          good = good-append P (object n t (sets b o xs) true ∷ Q) (good-left P _ (rw cut at h)) (refl, here-on .1);
           books = λ c A B x.
               let pp : Pos P = laid-pos (parts false P (object n t b g ∷ []) Q bs l1 .laid-front) in
               ap (λ (l : List Run). book c l) (append-assoc-out A P (object n t (sets b o xs) true ∷ Q) B)
@@ -104,9 +105,8 @@ unfolding lookBody
 look-parts a bs f m z b n t e lf i =
     let d : drop (64 * a) bs ≡ m ++ z = rw e (drop-at f (m ++ z) (64 * a) lf) in
     let h : take 16 (drop (64 * a) bs) ≡ take 16 m = rw d (take-append-le 16 m z (omega (arith, i .long))) in
-    let k : drop 16 m ≡ b ++ i .pad = ap (λ (x : List ℕ). drop 16 x) (i .cut) ∙ drop-at (take 16 m) (b ++ i .pad) 16 (length-take-le 16 m (omega (arith, i .long))) in
     let r : drop (64 * a + 16) bs ≡ b ++ (i .pad ++ z) =
-    sym (drop-drop 16 (64 * a) bs) ∙ ap (λ (x : List ℕ). drop 16 x) d ∙ drop-append-le 16 m z (omega (arith, i .long)) ∙ ap (λ (x : List ℕ). x ++ z) k ∙ append-assoc b (i .pad) z in
+    sym (drop-drop 16 (64 * a) bs) ∙ ap (λ (x : List ℕ). drop 16 x) d ∙ drop-append-le 16 m z (omega (arith, i .long)) ∙ ap (λ (x : List ℕ). x ++ z) (i .rest) ∙ append-assoc b (i .pad) z in
     rw (h, r, i .blen) (take-at b (i .pad ++ z) (length b) refl)
 
 body-parts : (a : ℕ) (bs f m z b : List ℕ) (n t : ℕ) → bs ≡ f ++ (m ++ z) → length f ≡ 64 * a → ObjectSeg n t b m → headLength (take 16 (drop (64 * a) bs)) ≡ length b

@@ -8,7 +8,7 @@ use mathlib.Core.Option.{Option, none, some}
 use mathlib.Core.List.{List, [], _∷_, _++_}
 use lib.ListN.{length, take, drop, replicate}
 use lib.Dec.{leb, eqb}
-use Rattle.rules.specs.Words.{digits, field}
+use Rattle.rules.specs.Words.{allZero, digits, field}
 use Rattle.rules.specs.Check.{check}
 use Rattle.rules.specs.Shape.{bodyLimit, cellSize, headSize}
 
@@ -71,12 +71,16 @@ unfoldable pub objectOk : List ℕ → Bool
 objectOk h =
     eqb (headKind h) objectKind && (leb 1 (headLength h) && (leb (headLength h) bodyLimit && eqb (headCells h) (cellsFor (headLength h))))
 
--- An object with the head h and the bytes rest behind it: its body; and whether it is good. One whose check is wrong is damaged.
+-- An object with the head h and the bytes rest behind it: its body; and the bytes behind the body, up to its last cell's end.
 abbrev pub bodyIn : List ℕ → List ℕ → List ℕ
 bodyIn h rest = take (headLength h) rest
 
-abbrev pub goodIn : List ℕ → List ℕ → Bool
-goodIn h rest = eqb (headCheck h) (check (covered h (bodyIn h rest)))
+abbrev pub behindBody : List ℕ → List ℕ → List ℕ
+behindBody h rest = take (cellSize * headCells h - (headSize + headLength h)) (drop (headLength h) rest)
+
+-- It is good where its check is right and the bytes behind its body are zero; else it is damaged.
+unfoldable pub goodIn : List ℕ → List ℕ → Bool
+goodIn h rest = eqb (headCheck h) (check (covered h (bodyIn h rest))) && allZero (behindBody h rest)
 
 -- The run with the head h and the bytes rest behind it; none for any other head.
 unfoldable pub runOf : List ℕ → List ℕ → Option Run

@@ -2,7 +2,9 @@
 use Prim.Native.Nat.{ℕ, zero, suc, _+_, _*_, _/_, _%_, _<_}
 use Prim.Native.Char.{code}
 use Prim.Native.String.{String, [] as empty, _∷_ as _then_}
+use mathlib.Core.Bool.{Bool, true, _&&_}
 use mathlib.Core.List.{List, [], _∷_}
+use lib.Dec.{eqb}
 use lib.ListN.{getD}
 use lib.Seq.{sets}
 
@@ -30,6 +32,11 @@ put p a w = sets p a (digits 8 w)
 -- Each element is a byte.
 abbrev pub Bytes : List ℕ → Type 0
 Bytes p = (i : ℕ) → getD p i 0 < 256
+
+-- All bytes are zero.
+unfoldable pub allZero : List ℕ → Bool
+allZero [] = true
+allZero (b ∷ bs) = eqb b 0 && allZero bs
 
 -- The bytes of a text.
 abbrev pub ascii : String → List ℕ

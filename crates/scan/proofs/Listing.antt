@@ -5,11 +5,9 @@ use mathlib.Core.Bool.{Bool, true, false}
 use mathlib.Core.List.{List, [], _++_, append-assoc, append-nil}
 use native.Mathlib.Nat.{add-zero}
 use native.Mathlib.Omega.{arith}
-use lib.ListN.{length, length-drop}
+use lib.ListN.{length, drop, length-drop}
 use lib.Seq.{length-take-le}
-use lib.Dec.{eqb}
-use Rattle.rules.specs.Check.{check}
-use Rattle.rules.specs.Runs.{Run, Walk, cells, covered, free, headCells, headCheck, headLength, headTag, isFree, object}
+use Rattle.rules.specs.Runs.{Run, Walk, cells, free, goodIn, headCells, headLength, headTag, isFree, object}
 use Rattle.rules.specs.Scan.{brokenLine, runLine, zoneLines}
 use Rattle.stage.specs.View.{part, seen}
 use Rattle.stage.proofs.View.{seen-none}
@@ -28,7 +26,7 @@ use Rattle.scan.proofs.Lines.{object-line}
 -- ---- an object's line, by its head at byte a
 
 pub judged-line : (p st : List ℕ) (a : ℕ) {h : List ℕ} {m : ℕ} → ObjectThere p a → h ≡ part 16 a (seen p st 0) → m ≡ headLength h → (z c : ℕ) {t : ℕ} {x : Bool}
-    → x ≡ eqb (headCheck h) (check (covered h (part m (a + 16) (seen p st 0)))) → t ≡ headTag h → objectLine z c t m x ≡ runLine z c (objectRun p a (part 16 a p))
+    → x ≡ goodIn h (drop (a + 16) (seen p st 0)) → t ≡ headTag h → objectLine z c t m x ≡ runLine z c (objectRun p a (part 16 a p))
 unfolding objectRun part
 judged-line p st a {h} {m} o e k z c {t} {x} q i =
     let l : length (part m (a + 16) p) ≡ m = length-take-le m _ (rw length-drop (omega (arith, body-room p st a o e k))) in

@@ -70,9 +70,8 @@ fn put_judged(pool: &[u8], out: &mut [u8], at: usize, z: usize, c: usize, place:
 {
     let none = &pool[0..0];
     let h = heads::read_head(pool, none, none, 0, place);
-    let m = h.body();
-    let good = objects::intact(pool, none, none, 0, h, place, m);
-    put_object(out, at, z, c, h.tag(), m, good)
+    let good = objects::intact(pool, none, none, 0, h, place);
+    put_object(out, at, z, c, h.tag(), h.body(), good)
 }
 
 // The line of the run at cell `c` of zone `z`, behind a free run or not.

@@ -5,10 +5,8 @@ use mathlib.Core.Bool.{Bool, true, false, not, cond}
 use mathlib.Core.List.{List, [], _∷_}
 use native.Mathlib.Nat.{add-assoc}
 use native.Mathlib.Omega.{arith}
-use lib.Dec.{eqb}
-use lib.ListN.{length}
-use Rattle.rules.specs.Check.{check}
-use Rattle.rules.specs.Runs.{Run, Walk, covered, free, headCheck, headLength, isFree, isGood, object}
+use lib.ListN.{length, drop}
+use Rattle.rules.specs.Runs.{Run, Walk, free, goodIn, headCells, headLength, isFree, isGood, object, objectOk}
 use Rattle.rules.specs.Scrub.{countRuns}
 use Rattle.rules.proofs.Bool.{split}
 use Rattle.stage.specs.View.{part, seen}
@@ -48,6 +46,9 @@ run-damaged {f = f} d =
 pub object-room : {v : List ℕ} {a : ℕ} → ObjectThere v a → a + 16 + headLength (part 16 a v) ≤ length v
 object-room {v} {a} o = body-inside (part 16 a v) a (o .ok) refl (o .inside)
 
+pub head-there : (v st : List ℕ) (a : ℕ) {h : List ℕ} → ObjectThere v a → h ≡ part 16 a (seen v st 0) → (a + 64 * headCells h ≤ length v) × (objectOk h ≡ true)
+head-there v st a o q = (rw (q, seen-none v st) (o .inside), rw (q, seen-none v st) (o .ok))
+
 pub body-room : (v st : List ℕ) (a : ℕ) {h : List ℕ} {m : ℕ} → ObjectThere v a → h ≡ part 16 a (seen v st 0) → m ≡ headLength h → a + 16 + m ≤ length v
 body-room v st a o q l = rw (l, q, seen-none v st) (object-room o)
 
@@ -55,10 +56,10 @@ pub free-at : (v : List ℕ) (a : ℕ) {f : Bool} → f ≡ true → false ≡ d
 unfolding damagedAt
 free-at v a e = rw e
 
-pub object-at : (v st : List ℕ) (a : ℕ) {f : Bool} {h : List ℕ} {x : Bool} {m : ℕ} → f ≡ false → h ≡ part 16 a (seen v st 0) → m ≡ headLength h
-    → x ≡ eqb (headCheck h) (check (covered h (part m (a + 16) (seen v st 0)))) → not x ≡ damagedAt v a f
+pub object-at : (v st : List ℕ) (a : ℕ) {f : Bool} {h : List ℕ} {x : Bool} → f ≡ false → h ≡ part 16 a (seen v st 0) → x ≡ goodIn h (drop (a + 16) (seen v st 0))
+    → not x ≡ damagedAt v a f
 unfolding damagedAt objectRun
-object-at v st a e q l k = rw (e, k, l, q, seen-none v st)
+object-at v st a e q k = rw (e, k, q, seen-none v st)
 
 -- ---- the loop over a zone's runs: o objects, d of them damaged before the walk w
 

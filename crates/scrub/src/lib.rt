@@ -42,7 +42,7 @@ fn damaged_at(pool: &[u8], at: usize, free: bool) -> bool
     }
     let none = &pool[0..0];
     let h = heads::read_head(pool, none, none, 0, at);
-    !objects::intact(pool, none, none, 0, h, at, h.body())
+    !objects::intact(pool, none, none, 0, h, at)
 }
 
 // One pass over a zone: runs before a break count.

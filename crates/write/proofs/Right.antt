@@ -1,6 +1,6 @@
 -- The check in the head of the object at an address that the tests 5, 23, 24 and 25 pass is right. Assumes nothing.
 use Prim.Native.Nat.{ℕ, _+_, _*_, _/_, _%_, _≤_, _<_}
-use mathlib.Core.Path.{_≡_, refl, ap, _∙_}
+use mathlib.Core.Path.{_≡_, ap, _∙_}
 use mathlib.Core.Bool.{true, false}
 use mathlib.Core.Option.{none, some}
 use mathlib.Core.List.{List, [], _∷_, _++_}
@@ -8,25 +8,19 @@ use native.Mathlib.Nat.{mod-lt}
 use native.Mathlib.Omega.{arith}
 use lib.ListN.{length, take, drop}
 use lib.Seq.{drop-at, drop-drop, take-append-le}
-use borrow.Author.Tests.{eqb-true}
 use Rattle.rules.specs.Shape.{Shape, zoneAt, zoneCells}
 use Rattle.rules.specs.Test.{first}
 use Rattle.rules.specs.Check.{check}
-use Rattle.rules.specs.Runs.{Run, Walk, covered, headCheck, headLength, object, zoneWalk}
+use Rattle.rules.specs.Runs.{Run, Walk, covered, headCheck, object, zoneWalk}
 use Rattle.rules.specs.Search.{runAt}
 use Rattle.rules.specs.Zones.{headAt, objectTests, runThere, walkIn, zoneData}
 use Rattle.rules.proofs.Test.{first-passed}
 use Rattle.rules.proofs.Sets.{part-take}
-use Rattle.rules.proofs.Laid.{Laid, Says, Seg, laid-length, parts, read-says, says-free, says-object, seg-cells, zone-laid}
+use Rattle.rules.proofs.Laid.{Laid, Seg, laid-length, parts, seg-cells, zone-laid}
+use Rattle.rules.proofs.Segments.{seg-right}
 use Rattle.rules.proofs.Search.{run-found}
 use Rattle.rules.proofs.Written.{laid-one}
 use Rattle.rules.proofs.Calls.{object-named}
-
-says-right : {h rest : List ℕ} {r : Run} → Says h rest r → (n t : ℕ) (b : List ℕ) → r ≡ object n t b true → headCheck h ≡ check (covered h b)
-says-right (says-free s) n t b e = absurd (let z : _≡_ {A = ℕ} 0 1 = cc in omega arith)
-says-right {h} {rest} (says-object s) n t b e =
-    let g : take (headLength h) rest ≡ b = cc in
-    rw g at (eqb-true (headCheck h) (check (covered h (take (headLength h) rest))) (cc))
 
 -- among runs one behind the other
 right-parts : (c : ℕ) (bs f m z : List ℕ) (n t : ℕ) (b : List ℕ) → bs ≡ f ++ (m ++ z) → length f ≡ 64 * c → Seg (object n t b true) m
@@ -34,7 +28,7 @@ right-parts : (c : ℕ) (bs f m z : List ℕ) (n t : ℕ) (b : List ℕ) → bs 
 right-parts c bs f m z n t b e l s =
     let d : drop (64 * c) bs ≡ m ++ z = rw e (drop-at f (m ++ z) (64 * c) l) in
     let k : take 16 (drop (64 * c) bs) ≡ take 16 m = rw d (take-append-le 16 m z (omega (arith, s .len, seg-cells s .0))) in
-    rw k (says-right (read-says m (object n t b true) (s .read)) n t b refl)
+    rw k (seg-right s)
 
 laid-right : (c : ℕ) (rs : List Run) (bs : List ℕ) (n t : ℕ) (b : List ℕ) → Laid false rs bs → runAt c 0 rs ≡ some (object n t b true)
     → headCheck (take 16 (drop (64 * c) bs)) ≡ check (covered (take 16 (drop (64 * c) bs)) b)

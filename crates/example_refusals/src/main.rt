@@ -1,5 +1,7 @@
 // What allocate, write and free refuse, in the pool R 2, C 2, Z 1. What is printed is compared with the stored values in `stdout`, which were
 // worked out apart from this code.
+mod stray; // bytes behind a body
+
 use examples::calls::allocate;
 use examples::calls::begin;
 use examples::calls::free;
@@ -90,4 +92,5 @@ fn main() {
     set(&mut pool, 4608, 3);
     broken(&pool, &mut staging);
     sealed(&mut pool, &mut staging);
+    stray::cases();
 }

@@ -1,9 +1,10 @@
-// What the example programs print: a name, then a check, a number, a body, or the outcome of a call.
+// What the example programs print: a name, then a check, a number, a body, an entry, scrub's counts, or the outcome of a call.
 use answers::Answer;
 use io::print_decimal;
 use io::print_hex;
 use libc::STDOUT_FILENO;
 use pool::Outcome;
+use pool::Scrubbed;
 
 // The check of the first `n` bytes of `s`.
 pub fn check(name: &[u8], s: &[u8], n: usize) {
@@ -79,4 +80,35 @@ fn first(part: &[u8], n: u8) {
     }
     print_hex(STDOUT_FILENO, words::load8(part, 0), 2);
     numbered(b", length ", part.len());
+}
+
+// What scrub answers: objects met, damaged ones, broken zones, columns with wrong parity; or the refusal.
+pub fn scrub(name: &[u8], pool: &[u8]) {
+    io::write_all(STDOUT_FILENO, name);
+    match pool::scrub(pool) {
+        Scrubbed::Counts(objects, damaged, broken, columns) => {
+            counted(objects);
+            counted(damaged);
+            counted(broken);
+            numbered(b"", columns);
+        }
+        Scrubbed::Refused(n) => numbered(b"refused ", n as usize),
+    }
+}
+
+// A count with others after it.
+fn counted(n: usize) {
+    print_decimal(STDOUT_FILENO, n as u64);
+    io::write_all(STDOUT_FILENO, b", ");
+}
+
+// The staged entry `e`: its target, and its word in hexadecimal.
+pub fn entry(name: &[u8], e: &[u8]) {
+    if e.len() == 16 {
+        io::write_all(STDOUT_FILENO, name);
+        print_decimal(STDOUT_FILENO, words::load64(e, 0));
+        io::write_all(STDOUT_FILENO, b", word ");
+        print_hex(STDOUT_FILENO, words::load64(e, 8), 16);
+        io::write_all(STDOUT_FILENO, b"\n");
+    }
 }

@@ -1,9 +1,10 @@
-// What the scan prints for the pools in `data` and for others made of them: objects, breaks, parity and each refusal. The pools and the
-// expected output in `stdout` were worked out apart from this code.
+// What the scan prints for the pools in `data` and for others made of them: objects, breaks, parity, bytes behind a body and each refusal. The
+// pools and the expected output in `stdout` were worked out apart from this code.
 //
 //   fresh      R 1, C 1, Z 1, one free run          objects    R 3, C 2, Z 2: bodies of 1 to 496 bytes, damaged ones, a full zone
 //   different  the same with another id in page 1    breaks     R 2, C 1, Z 16: each zone broken in another way, the last one whole
-//   parity     R 2, C 3, Z 2, four columns wrong
+//   parity     R 2, C 3, Z 2, four columns wrong      stray      R 2, C 1, Z 8: bytes behind bodies of 1 to 495 bytes, and in free runs
+//   bench      R 2, C 2, Z 1: the tag 5 object of document 01, byte 4,625 behind its body set
 use libc::STDOUT_FILENO;
 
 // The text of `pool`, under its name.
@@ -73,6 +74,8 @@ fn main() {
     show_file(b"objects");
     show_file(b"breaks");
     show_file(b"parity");
+    show_file(b"stray");
+    show_file(b"bench");
     show_file(b"different");
     show_lengths();
     show_changed(b"first header invalid", 0, 0, 0, 0);

@@ -83,7 +83,8 @@ enum {
     POOL_REFUSED_NO_LOG = 22,    /* start of recovery: both seals non-zero, neither log valid                               */
     POOL_REFUSED_BROKEN = 23,    /* the zone is broken anywhere                                                             */
     POOL_REFUSED_NO_OBJECT = 24, /* no object begins there                                                                  */
-    POOL_REFUSED_DAMAGED = 25,   /* object damaged: its check is wrong                                                      */
+    POOL_REFUSED_DAMAGED = 25,   /* object damaged: its check is wrong, or a byte between its body's end and its last cell's
+                                    end is not zero                                                                         */
     POOL_REFUSED_NO_ROOM = 26,   /* allocate: no zone broken and no free run long enough                                    */
     POOL_REFUSED_TOO_MANY = 27,  /* more than 127 distinct words touched                                                    */
     POOL_REFUSED_TWO_LOST = 28,  /* a mask with two bits or more                                                            */

@@ -36,12 +36,17 @@ static uint32_t number(const uint8_t *bytes, size_t length)
     return value;
 }
 
+/* Its check is wrong, or a byte between its body's end and its last cell's end is not zero. */
 static int object_is_damaged(const uint8_t *head)
 {
+    size_t length = number(head + 4, 4);
     struct sums sums = add((struct sums){1, 0}, head, 8);
     sums = add(sums, head + 12, 4);
-    sums = add(sums, head + HEAD, number(head + 4, 4));
-    return number(head + 8, 4) != (sums.high << 16 | sums.low);
+    sums = add(sums, head + HEAD, length);
+    uint8_t stray = 0;
+    for (size_t i = HEAD + length; i < number(head + 2, 2) * CELL; i++)
+        stray |= head[i];
+    return stray != 0 || number(head + 8, 4) != (sums.high << 16 | sums.low);
 }
 
 static int column_is_wrong(const uint8_t *page, size_t rows, size_t row)
@@ -58,7 +63,7 @@ static int column_is_wrong(const uint8_t *page, size_t rows, size_t row)
     return any != 0;
 }
 
-/* Damaged objects and columns with wrong parity: the check of all bodies and the exclusive or of all rows. */
+/* Damaged objects and columns with wrong parity: the check of all bodies, the bytes behind them and the exclusive or of all rows. */
 size_t loop_scrub(const uint8_t *pool, size_t rows, size_t cols, size_t zones)
 {
     size_t row = cols * PAGE, faults = 0;

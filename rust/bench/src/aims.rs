@@ -3,8 +3,8 @@ use crate::chosen::{Beside, RECOVERY, SAVE_AND_FREE, WITH_BARRIERS};
 use crate::report::{markdown, Row};
 use crate::runs::{find, two_digits, Runs, Spread};
 
-/// Speed over plain Rust before there were calls that go on to the next barrier; plain Rust's check, scrub and repair are the same since. On an
-/// AMD EPYC, the median of seven runs.
+/// Speed over plain Rust before there were calls that go on to the next barrier; plain Rust's check and repair are the same since, and its scrub
+/// judges the bytes behind bodies too, as the library's does. On an AMD EPYC, the median of seven runs.
 const BEFORE: [(&str, &str, f64); 8] = [
     ("check", "496 bytes", 0.99),
     ("check", "64 KiB", 1.04),

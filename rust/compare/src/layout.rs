@@ -4,6 +4,7 @@
 //! page 0       1            2 to 9  10 to 17  18 ..
 //!      header  header copy  log A   log B     zones: R data rows of C pages, then the parity row
 //! ```
+use std::ops::Range;
 
 pub const PAGE: usize = 256;
 pub const CELL: usize = 64;
@@ -59,6 +60,12 @@ impl Shape {
         self.zone(number / (self.data() / 8)) + number % (self.data() / 8) * 8
     }
 
+    /// Where the parity byte of this byte of a data row lies.
+    pub fn parity(self, at: usize) -> usize {
+        let zone = self.zone((at - ZONES) / (self.data() + self.row()));
+        zone + self.data() + (at - zone) % self.row()
+    }
+
     /// Where a page of zone z lies; the parity row is row `rows`.
     pub fn page(self, z: usize, row: usize, col: usize) -> usize {
         self.zone(z) + row * self.row() + col * PAGE
@@ -111,10 +118,19 @@ pub fn put_headers(shape: Shape, pool: &mut [u8], id: u64) {
     pool[PAGE..2 * PAGE].copy_from_slice(&page);
 }
 
+/// The first valid header of a pool.
+fn valid_header(pool: &[u8]) -> Option<&[u8]> {
+    pool.chunks_exact(PAGE).take(2).find(|page| header_shape(page).is_some())
+}
+
 /// The id of a pool: that of its first valid header; 0 if there is none.
 pub fn pool_id(pool: &[u8]) -> u64 {
-    let first = pool.chunks_exact(PAGE).take(2).find(|page| header_shape(page).is_some());
-    first.map_or(0, |page| get(page, 8, 8))
+    valid_header(pool).map_or(0, |page| get(page, 8, 8))
+}
+
+/// The shape of a pool, by its first valid header.
+pub fn pool_shape(pool: &[u8]) -> Option<Shape> {
+    valid_header(pool).and_then(header_shape)
 }
 
 /// The check of a run: head bytes 0 to 7 and 12 to 15, then the body.
@@ -193,6 +209,35 @@ pub fn runs(shape: Shape, pool: &[u8], z: usize) -> (Vec<Run>, bool) {
     (list, false)
 }
 
+/// The bytes behind the body of the object whose head lies here: from the body's end to the run's end.
+pub fn behind_body(pool: &[u8], at: usize) -> Range<usize> {
+    let length = get(pool, at + 4, 4) as usize;
+    at + 16 + length..at + object_cells(length) * CELL
+}
+
+/// Why an object is damaged.
+#[derive(Clone, Copy, Debug, PartialEq, Eq)]
+pub enum Fault {
+    Check,
+    /// The check is right, and a byte behind the body is not zero.
+    Stray,
+}
+
+/// What is wrong with the object whose head lies here.
+pub fn fault(pool: &[u8], at: usize) -> Option<Fault> {
+    let behind = behind_body(pool, at);
+    if get(pool, at + 8, 4) != u64::from(run_check(&pool[at..at + 16], &pool[at + 16..behind.start])) {
+        return Some(Fault::Check);
+    }
+    pool[behind].iter().any(|&byte| byte != 0).then_some(Fault::Stray)
+}
+
+/// Where the heads of the objects of zone z lie, up to its end or its break.
+pub fn object_heads(shape: Shape, pool: &[u8], z: usize) -> Vec<usize> {
+    let (runs, _) = runs(shape, pool, z);
+    runs.iter().filter(|run| run.object).map(|run| shape.zone(z) + run.cell * CELL).collect()
+}
+
 /// An object as the application knows it.
 #[derive(Clone, Debug, PartialEq, Eq)]
 pub struct Object {
@@ -229,9 +274,9 @@ pub fn objects(pool: &[u8]) -> Result<Vec<Object>, &'static str> {
 }
 
 fn object(pool: &[u8], address: usize, at: usize) -> Result<Object, &'static str> {
-    let body = &pool[at + 16..][..get(pool, at + 4, 4) as usize];
-    if get(pool, at + 8, 4) != u64::from(run_check(&pool[at..at + 16], body)) {
-        return Err("object damaged");
+    match fault(pool, at) {
+        Some(Fault::Check) => Err("an object's check"),
+        Some(Fault::Stray) => Err("bytes behind a body"),
+        None => Ok(Object { address, tag: get(pool, at + 12, 4) as u32, body: pool[at + 16..behind_body(pool, at).start].to_vec() }),
     }
-    Ok(Object { address, tag: get(pool, at + 12, 4) as u32, body: body.to_vec() })
 }

@@ -112,7 +112,7 @@ pub fn spoil_target(random: &mut Random, shape: Shape, entries: &mut [u8]) {
 
 /// Damages a pool in place, in one of many ways.
 pub fn damage(random: &mut Random, shape: Shape, pool: &mut [u8]) {
-    match random.below(10) {
+    match random.below(12) {
         0 => {
             let at = random.below(pool.len());
             pool[at] ^= 1 << random.below(8);
@@ -126,7 +126,8 @@ pub fn damage(random: &mut Random, shape: Shape, pool: &mut [u8]) {
         5 => damage_header(random, pool),
         6 => damage_seals(random, pool),
         7 | 8 => put_log(random, shape, pool),
-        _ => damage_body(random, shape, pool),
+        9 => damage_body(random, shape, pool),
+        _ => strike_behind_body(random, shape, pool),
     }
 }
 
@@ -150,8 +151,8 @@ fn damage_head(random: &mut Random, shape: Shape, pool: &mut [u8]) {
         1 => head(kind, random.pick(&[0, 1, cells + 1, cells - 1, 8, 9, 0x8000, 0xFFFF]), length, tag, &body),
         2 => {
             let most = 64 * cells - 16;
-            let longer = random.pick(&[0, 1, length + 1, length - length.min(1), most, most + 1, 496, 497, 1 << 31, 0xFFFF_FFFF]);
-            head(kind, cells, longer, tag, &body)
+            let another = random.pick(&[0, 1, length + 1, length - length.min(1), most, most + 1, 496, 497, 1 << 31, 0xFFFF_FFFF]);
+            head(kind, cells, another, tag, &pool[at + 16..][..another.min(most) as usize])
         }
         _ => head(kind, cells, length, random.pick(&[0, 1, tag ^ 1, 0xFFFF_FFFF]), &body),
     };
@@ -174,11 +175,47 @@ fn split_free(random: &mut Random, shape: Shape, pool: &mut [u8]) {
     }
 }
 
-/// One body byte, or one byte of an object's check or tag.
+/// One byte of a run behind its lengths: of its check, its tag, its body, or behind the body.
 fn damage_body(random: &mut Random, shape: Shape, pool: &mut [u8]) {
     if let Some((at, run)) = any_run(random, shape, pool) {
         let place = random.from_to(8, run.cells * CELL - 1);
         pool[at + place] ^= 1 << random.below(8);
+    }
+}
+
+/// A byte behind a body: the first, the last, or any of them; none if no body of a random zone has bytes behind it.
+fn place_behind_body(random: &mut Random, shape: Shape, pool: &[u8]) -> Option<usize> {
+    let z = random.below(shape.zones);
+    let heads = object_heads(shape, pool, z);
+    let places: Vec<_> = heads.iter().map(|&at| behind_body(pool, at)).filter(|behind| !behind.is_empty()).collect();
+    (!places.is_empty()).then(|| {
+        let behind = &places[random.below(places.len())];
+        let (first, last) = (behind.start, behind.end - 1);
+        let any = random.from_to(first, last);
+        random.pick(&[first, last, any])
+    })
+}
+
+/// A byte behind a body becomes one that is not zero. Nothing else changes, or only the parity byte at its place, so that parity stays as it is.
+pub fn strike_behind_body(random: &mut Random, shape: Shape, pool: &mut [u8]) {
+    if let Some(at) = place_behind_body(random, shape, pool) {
+        let stray = random.from_to(1, 255) as u8;
+        if random.once_in(2) {
+            pool[shape.parity(at)] ^= pool[at] ^ stray;
+        }
+        pool[at] = stray;
+    }
+}
+
+/// Gives one entry the word of a byte behind a body, with this byte not zero, or zero if the pool has a stray byte there.
+pub fn stage_behind_body(random: &mut Random, shape: Shape, pool: &[u8], entries: &mut [u8]) {
+    if let Some(at) = place_behind_body(random, shape, pool) {
+        let target = at / 8 * 8;
+        let same = entries.chunks_exact(16).position(|entry| get(entry, 0, 8) == target as u64);
+        let entry = &mut entries[same.unwrap_or(0) * 16..][..16];
+        put(entry, 0, 8, target as u64);
+        entry[8..].copy_from_slice(&pool[target..target + 8]);
+        entry[8 + at % 8] = if pool[at] == 0 { 1 << random.below(8) } else { 0 };
     }
 }
 

@@ -35,8 +35,10 @@ pub fn staged(random: &mut Random, shape: Shape, pool: &[u8]) -> (Vec<u8>, Trans
         let list = pools::targets(random, shape, wanted);
         let same = !random.once_in(4);
         let mut bytes = pools::entries(random, pool, &list, same);
-        if random.once_in(8) {
-            pools::spoil_target(random, shape, &mut bytes);
+        match random.below(8) {
+            0 => pools::spoil_target(random, shape, &mut bytes),
+            1..=3 => pools::stage_behind_body(random, shape, pool, &mut bytes),
+            _ => (),
         }
         staging[..bytes.len()].copy_from_slice(&bytes);
         count = list.len();
@@ -100,7 +102,7 @@ pub fn recovery(random: &mut Random, pool: &[u8]) -> Recovery {
 }
 
 /// The pool as the staged entries change it.
-fn view(given: &Given) -> Vec<u8> {
+pub fn view(given: &Given) -> Vec<u8> {
     let mut pool = given.pool.clone();
     for entry in given.staging.chunks_exact(16).take(given.transaction.count) {
         let target = get(entry, 0, 8) as usize;

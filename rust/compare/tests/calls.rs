@@ -1,22 +1,24 @@
 //! The library against the reference: every answer, and every byte of pool, staging memory and record, over random
 //! pools and requests.
-use compare::calls::{compare, Call, Given};
-use compare::layout::{pool_id, put_headers, Shape, LARGEST, LOGS};
+use compare::calls::{compare, Answer, Call, Given};
+use compare::layout::{behind_body, fault, object_heads, objects, pool_id, pool_shape, put_headers, Fault, Shape, CELL, LARGEST, LOGS};
 use compare::random::Random;
 use compare::{pools, requests, times};
 use std::collections::{BTreeMap, BTreeSet};
 
-/// What each call can answer. `2` stands twice: "2 short" under 512 bytes, "2 length" after the headers.
+/// What each call can answer. `2` stands twice: "2 short" under 512 bytes, "2 length" after the headers. `25` stands for what is wrong with the
+/// object: "25 check"; "25 stray", bytes behind the body; "25 staged", such bytes in the entries alone. So does scrub's `0`: "0 stray" if it
+/// counted an object for such bytes alone.
 const ANSWERS: [(&str, &str); 15] = [
     ("format", "0, 1, 2 short, 2 length"),
     ("mend", "0, 2 short, 3, 4, 2 length"),
-    ("look", "0, 2 short, 3, 4, 2 length, 21, 5, 23, 24, 25"),
-    ("scrub", "0, 2 short, 3, 4, 2 length, 21"),
+    ("look", "0, 2 short, 3, 4, 2 length, 21, 5, 23, 24, 25 check, 25 stray"),
+    ("scrub", "0, 0 stray, 2 short, 3, 4, 2 length, 21"),
     ("repair", "0, 2 short, 3, 4, 2 length, 21, 8, 28"),
     ("begin", "taken, 2 short, 3, 4, 2 length, 21"),
     ("allocate", "address, 2 short, 3, 4, 2 length, 9, 10, 11, 29, 21, 6, 23, 26, 27"),
-    ("write", "taken, 2 short, 3, 4, 2 length, 9, 10, 11, 29, 21, 5, 23, 24, 25, 7, 27"),
-    ("free", "taken, 2 short, 3, 4, 2 length, 9, 10, 11, 29, 21, 5, 23, 24, 25, 27"),
+    ("write", "taken, 2 short, 3, 4, 2 length, 9, 10, 11, 29, 21, 5, 23, 24, 25 check, 25 stray, 25 staged, 7, 27"),
+    ("free", "taken, 2 short, 3, 4, 2 length, 9, 10, 11, 29, 21, 5, 23, 24, 25 check, 25 stray, 25 staged, 27"),
     ("commit", "started, done, 2 short, 3, 4, 2 length, 9, 10, 11, 29, 21"),
     ("commit_step", "stored, barrier, done, 2 short, 3, 4, 2 length, 9, 10, 11, 29, 21"),
     ("commit_advance", "barrier, done, 2 short, 3, 4, 2 length, 9, 10, 11, 29, 21"),
@@ -30,6 +32,53 @@ const COMMIT: [Call; 2] = [Call::CommitStep, Call::CommitAdvance];
 const RECOVER: [Call; 2] = [Call::RecoverStep, Call::RecoverAdvance];
 
 const KINDS: [&str; 7] = ["refused", "address", "taken", "started", "stored", "barrier", "done"];
+
+/// Each answer must be met so many times.
+const MET: usize = 100;
+
+/// An answer by its name in the table; `given` is as the call left it.
+fn name(call: &Call, given: &Given, answer: Answer) -> String {
+    match (answer, answer.refusal_and_kind()) {
+        (_, (2, _)) => if given.pool.len() < 512 { "2 short" } else { "2 length" }.to_string(),
+        (_, (25, _)) => format!("25 {}", cause(call, given)),
+        (Answer::Counts(counts), (0, _)) => counted(counts.damaged, &faults(&given.pool)).to_string(),
+        (_, (0, Some(kind))) => KINDS[kind].to_string(),
+        (_, (n, _)) => n.to_string(),
+    }
+}
+
+/// Scrub counts the damaged objects that the tests' own reader finds.
+fn counted(damaged: usize, faults: &[Fault]) -> &'static str {
+    assert_eq!(damaged, faults.len(), "damaged objects: {faults:?}");
+    if faults.contains(&Fault::Stray) {
+        "0 stray"
+    } else {
+        "0"
+    }
+}
+
+/// What is wrong with the object that a call refuses with 25, by the tests' own reader.
+fn cause(call: &Call, given: &Given) -> &'static str {
+    let shape = pool_shape(&given.pool).expect("a valid header");
+    let (address, pool) = match *call {
+        Call::Look(address) => (address, given.pool.clone()),
+        Call::Write { address, .. } | Call::Free(address) => (address, requests::view(given)),
+        _ => panic!("{} answers 25", call.name()),
+    };
+    let at = shape.cell(address);
+    match fault(&pool, at).expect("a damaged object") {
+        Fault::Check => "check",
+        Fault::Stray if given.pool[behind_body(&pool, at)].iter().all(|&byte| byte == 0) => "staged",
+        Fault::Stray => "stray",
+    }
+}
+
+/// The faults of all damaged objects of a pool, by the tests' own reader.
+fn faults(pool: &[u8]) -> Vec<Fault> {
+    let shape = pool_shape(pool).expect("a valid header");
+    let heads = (0..shape.zones).flat_map(|z| object_heads(shape, pool, z));
+    heads.filter_map(|at| fault(pool, at)).collect()
+}
 
 /// Random requests, compared and counted.
 struct Comparison {
@@ -45,13 +94,8 @@ impl Comparison {
 
     /// Makes one call on both sides; answers what both answered.
     fn answer(&mut self, call: &Call, given: &mut Given) -> String {
-        let short = given.pool.len() < 512;
         let answer = compare(call, given, self.random.below(16));
-        let what = match answer.refusal_and_kind() {
-            (2, _) => if short { "2 short" } else { "2 length" }.to_string(),
-            (0, Some(kind)) => KINDS[kind].to_string(),
-            (n, _) => n.to_string(),
-        };
+        let what = name(call, given, answer);
         *self.counts.entry((call.name(), what.clone())).or_default() += 1;
         what
     }
@@ -98,7 +142,7 @@ impl Comparison {
         given
     }
 
-    /// A transaction on a sound pool: some calls, its commit with all steps, then what the pool holds.
+    /// A transaction on a sound pool: some calls, its commit with all steps, then what the pool holds; it must be sound again.
     fn make_transaction(&mut self, shape: Shape) {
         let mut given = self.begun(shape);
         for _ in 0..self.random.from_to(1, 10) {
@@ -108,9 +152,36 @@ impl Comparison {
         if self.make(&Call::Commit, &mut given) {
             self.make_steps(COMMIT, &mut given, usize::MAX);
         }
+        assert_eq!(objects(&given.pool).err(), None);
         self.make(&Call::Scrub, &mut given);
         for address in 0..shape.zones * shape.cells().min(16) {
             self.make(&Call::Look(address), &mut given);
+        }
+    }
+
+    /// A sound pool in which bytes behind bodies are struck, and no others: scrub counts the objects struck, and look, write and free refuse
+    /// them and no other.
+    fn strike_behind_bodies(&mut self, shape: Shape) {
+        let mut given = self.begun(shape);
+        for _ in 0..self.random.from_to(1, 3) {
+            pools::strike_behind_body(&mut self.random, shape, &mut given.pool);
+        }
+        let struck = faults(&given.pool);
+        assert!(struck.iter().all(|&fault| fault == Fault::Stray));
+        assert_eq!(self.answer(&Call::Scrub, &mut given), if struck.is_empty() { "0" } else { "0 stray" });
+        for z in 0..shape.zones {
+            for at in object_heads(shape, &given.pool, z) {
+                let address = z * shape.cells() + (at - shape.zone(z)) / CELL;
+                self.make_on_object(&given, address, fault(&given.pool, at).is_some());
+            }
+        }
+    }
+
+    /// Look, write and free at an object that is struck or good, each on a copy.
+    fn make_on_object(&mut self, given: &Given, address: usize, struck: bool) {
+        let write = Call::Write { address, at: 0, bytes: self.random.bytes(1) };
+        for (call, good) in [(Call::Look(address), "0"), (write, "taken"), (Call::Free(address), "taken")] {
+            assert_eq!(self.answer(&call, &mut given.clone()), if struck { "25 stray" } else { good });
         }
     }
 
@@ -226,11 +297,14 @@ impl Comparison {
         println!("{} calls compared", self.counts.values().sum::<usize>());
     }
 
-    /// Each answer of the table must have been met, and no other.
+    /// Each answer of the table must have been met often enough, and no other.
     fn all_met(&self) {
         for (call, answers) in ANSWERS {
             let met = self.counts.keys().filter(|(name, _)| *name == call).map(|(_, answer)| answer.as_str());
             assert_eq!(met.collect::<BTreeSet<_>>(), answers.split(", ").collect::<BTreeSet<_>>(), "answers of {call}");
+        }
+        for ((call, answer), &count) in &self.counts {
+            assert!(count >= MET, "{call} answered {answer} {count} times");
         }
     }
 }
@@ -256,6 +330,19 @@ fn transactions_on_sound_pools() {
         comparison.make_transaction(shape);
     }
     comparison.print();
+}
+
+#[test]
+fn stray_bytes_behind_bodies() {
+    let mut comparison = Comparison::new(8);
+    for _ in 0..2_000 * times() {
+        let shape = pools::shape(&mut comparison.random);
+        comparison.strike_behind_bodies(shape);
+    }
+    comparison.print();
+    for (call, answer) in [("look", "25 stray"), ("write", "25 stray"), ("free", "25 stray"), ("scrub", "0 stray")] {
+        assert!(comparison.counts[&(call, answer.to_string())] >= 10 * MET, "{call}");
+    }
 }
 
 /// All steps up to the next barrier, from every place of a commit and of a recovery from either log, or one that clears the seals only.

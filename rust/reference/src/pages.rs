@@ -4,7 +4,7 @@ use crate::header::{header, open_unsealed};
 use crate::layout::{put_word, Shape, PAGE, WORD};
 use crate::records::Counts;
 use crate::refusal::{LENGTH, LOSS_LIST, SHAPE, TWO_LOST};
-use crate::runs::{body, walk, Head};
+use crate::runs::{is_damaged, walk, Head};
 
 /// Makes each zone one free run, all other bytes zero, parity right: 1, 2.
 pub fn format(pool: &mut [u8], rows: usize, cols: usize, zones: usize, id: u64) -> usize {
@@ -94,7 +94,7 @@ fn count_runs(pool: &[u8], shape: Shape, zone: usize, counts: &mut Counts) {
     let whole = walk(pool, shape, zone, |run| {
         if !run.head.is_free() {
             counts.objects += 1;
-            counts.damaged += usize::from(run.head.check != run.head.right_check(body(pool, run)));
+            counts.damaged += usize::from(is_damaged(pool, run));
         }
     });
     counts.broken += usize::from(!whole);

@@ -65,6 +65,13 @@ impl Head {
         Sums::START.add(&first).add(&self.tag.to_le_bytes()).add(body).check()
     }
 
+    /// Whether an object is damaged: its check is wrong, or one of the bytes between its body's end and its last cell's
+    /// end is not zero. Given are all bytes of its cells behind the head.
+    pub fn is_damaged(self, behind_head: &[u8]) -> bool {
+        let (body, rest) = behind_head.split_at(self.body);
+        self.check != self.right_check(body) || rest.iter().any(|&byte| byte != 0)
+    }
+
     pub fn is_free(self) -> bool {
         self.kind == FREE
     }
@@ -144,9 +151,9 @@ pub fn find<W: Words + ?Sized>(words: &W, shape: Shape, address: usize) -> Resul
     Ok(Place { object, before, after })
 }
 
-/// The bytes of an object's body in the committed pool.
-pub fn body(pool: &[u8], object: Run) -> &[u8] {
-    &pool[object.offset + HEAD..][..object.head.body]
+/// Whether an object of the committed pool is damaged.
+pub fn is_damaged(pool: &[u8], Run { offset, head, .. }: Run) -> bool {
+    head.is_damaged(&pool[offset + HEAD..offset + head.cells * CELL])
 }
 
 /// Look: the object's body as a part of the pool, committed bytes only.
@@ -160,7 +167,7 @@ pub fn look(pool: &[u8], address: usize) -> Part {
 fn find_committed(pool: &[u8], address: usize) -> Result<Run, usize> {
     let shape = open_unsealed(pool)?.shape;
     let object = find(pool, shape, address)?.object;
-    if object.head.check != object.head.right_check(body(pool, object)) {
+    if is_damaged(pool, object) {
         return Err(DAMAGED);
     }
     Ok(object)

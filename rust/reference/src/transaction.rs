@@ -116,8 +116,9 @@ fn stage_object(shape: Shape, mut set: WriteSet, tag: u32, body: &[u8]) -> Resul
     if remain > 0 {
         touch_head(&mut set, end, Head::new_free(remain));
     }
-    debug_assert!(set.targets_fit(shape) && walk(&set, shape, zone, |_| ()));
-    Ok((set.count, zone * shape.zone_cells() + run.cell))
+    let address = zone * shape.zone_cells() + run.cell;
+    debug_assert!(set.targets_fit(shape) && find_undamaged(shape, &set, address, &mut bytes).is_ok());
+    Ok((set.count, address))
 }
 
 /// The lowest zone's lowest free run that is long enough; each zone is first judged whole: 23 or 26.
@@ -183,12 +184,12 @@ fn stage_free(shape: Shape, mut set: WriteSet, address: usize) -> Result<usize, 
     Ok(set.count)
 }
 
-/// The object at this address, and its staged head and body: 5, 23, 24, 25.
+/// The object at this address, and the staged bytes of its cells: 5, 23, 24, 25.
 fn find_undamaged(shape: Shape, set: &WriteSet, address: usize, buffer: &mut [u8; HEAD + Shape::BODY]) -> Result<Place, usize> {
     let place = find(set, shape, address)?;
     let Run { offset, head, .. } = place.object;
     set.read(offset, &mut buffer[..head.cells * CELL]);
-    if head.check != head.right_check(&buffer[HEAD..][..head.body]) {
+    if head.is_damaged(&buffer[HEAD..head.cells * CELL]) {
         return Err(DAMAGED);
     }
     Ok(place)

@@ -75,6 +75,17 @@ fn objects() {
     assert_eq!(write(t, &damaged, &mut staging, 1, 0, &[]), refused(t, 25));
     assert_eq!(free(t, &damaged, &mut staging, 1), refused(t, 25));
     assert_eq!(scrub(&damaged), Counts { refusal: 0, objects: 3, damaged: 1, broken: 0, columns: 1 });
+    for place in [36, 63] {
+        let mut stray = whole.clone();
+        stray[ZONE + 64 + place] = 1;
+        assert_eq!([0, 1, 2, 3, 16].map(|address| look(&stray, address).refusal), [0, 25, 0, 24, 5]);
+        assert_eq!(write(t, &stray, &mut staging, 1, 0, &[]), refused(t, 25));
+        assert_eq!(free(t, &stray, &mut staging, 1), refused(t, 25));
+        assert_eq!(scrub(&stray), Counts { refusal: 0, objects: 3, damaged: 1, broken: 0, columns: 1 });
+        stray[ZONE + 128] = 9;
+        assert_eq!(look(&stray, 1).refusal, 23);
+        assert_eq!(free(t, &stray, &mut staging, 1), refused(t, 23));
+    }
     let mut broken = whole.clone();
     broken[ZONE + 128] = 9;
     assert_eq!(look(&broken, 0).refusal, 23);

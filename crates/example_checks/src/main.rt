@@ -24,8 +24,25 @@ fn changes(s: &mut [u8]) {
     change(b"and rises, updated: ", b"and rises, whole: ", s, 255);
 }
 
+// Bytes hex FF around the end of a block of 2,048, two blocks of them, and 5,553: in one block so many could overflow sums of 32 bits.
+fn high_blocks(s: &[u8]) {
+    examples::report::check(b"check of 2047 bytes ff: ", s, 2047);
+    examples::report::check(b"check of 2048 bytes ff: ", s, 2048);
+    examples::report::check(b"check of 2049 bytes ff: ", s, 2049);
+    examples::report::check(b"check of 4096 bytes ff: ", s, 4096);
+    examples::report::check(b"check of 5553 bytes ff: ", s, 5553);
+}
+
+// The same of other bytes.
+fn blocks(s: &[u8]) {
+    examples::report::check(b"check of 2047 bytes: ", s, 2047);
+    examples::report::check(b"check of 2048 bytes: ", s, 2048);
+    examples::report::check(b"check of 2049 bytes: ", s, 2049);
+    examples::report::check(b"check of 5553 bytes: ", s, 5553);
+}
+
 fn main() {
-    let high = [255u8; 1200];
+    let high = [255u8; 5553];
     let mut long = io::large_buffer();
     let mut part = io::buffer();
     examples::report::check(b"check of 1200 bytes ff: ", &high, 1200);
@@ -34,4 +51,6 @@ fn main() {
     ramp(&mut part);
     examples::report::check(b"check of 4096 bytes: ", &part, 4096);
     changes(&mut part);
+    high_blocks(&high);
+    blocks(&long);
 }

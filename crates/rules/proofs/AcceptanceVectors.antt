@@ -78,10 +78,10 @@ put-low-first = refl
 
 -- ---- The check
 
--- 65520 stays, 65521 becomes 0.
-pub reduced-limits : (reduced 65520 ≡ 65520) × (reduced 65521 ≡ 0) × (reduced 65522 ≡ 1)
+-- 65520 stays, 65521 becomes 0; so does twice 65521, and the highest number of 32 bits becomes 224.
+pub reduced-limits : (reduced 65520 ≡ 65520) × (reduced 65521 ≡ 0) × (reduced 65522 ≡ 1) × (reduced 131042 ≡ 0) × (reduced 4294967295 ≡ 224)
 unfolding opened
-reduced-limits = (refl, refl, refl)
+reduced-limits = (refl, refl, refl, refl, refl)
 
 -- One byte: the low sum starts at 1, the high one adds the new low sum.
 pub check-one-byte : check (2 ∷ []) ≡ 0x00030003

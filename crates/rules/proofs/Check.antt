@@ -1,95 +1,45 @@
--- The check is two sums modulo 65521 (`check-sums`), and may be brought up to date byte by byte (`check-updated`).
+-- The check is two sums modulo 65521 (`check-mod`), and may be brought up to date byte by byte (`check-updated`).
 use Prim.Native.Nat.{ℕ, zero, suc, _+_, _-_, _*_, _/_, _%_, _^_, _≤_, _<_}
-use mathlib.Core.Path.{_≡_, refl, sym, ap, ap₂, _∙_, subst}
+use mathlib.Core.Path.{_≡_, sym, ap, ap₂, _∙_, subst}
 use mathlib.Core.Logic.{_⊎_, inl, inr}
 use mathlib.Core.List.{List, [], _∷_, _++_, append-assoc}
-use native.Mathlib.Nat.{mod-lt, suc-mul, mul-add, add-mul, mul-left-comm, mul-comm, mul-zero, sub-zero, suc-sub-suc, div-add-mod, zero-mul}
+use native.Mathlib.Nat.{suc-mul, mul-add, add-mul, mul-left-comm, mul-comm, mul-zero, sub-zero, suc-sub-suc, div-add-mod, zero-mul}
 use native.Mathlib.Decide.{decLt}
 use native.Mathlib.Omega.{arith}
 use lib.ListN.{length, take, drop, getD, set, length-append, length-take, length-drop, length-set}
-use lib.Dec.{ltb}
-use borrow.Author.Tests.{ltb-true, ltb-false, lt-ltb, le-ltb}
+use borrow.Author.Tests.{lt-ltb, le-ltb}
 use lib.Seq.{set-getD}
 use lib.IntN.{pos, negsuc, negℤ, _-ℤ_, _*ℤ_}
 use Rattle.rules.specs.Words.{Bytes}
 use Rattle.rules.specs.Check.{check, high, low, modulus, moved, reduced, residue, total, updated, weighted}
 use Rattle.rules.specs.Runs.{covered}
-use Rattle.rules.proofs.Bool.{split}
-use Rattle.rules.proofs.Words.{bytes-set}
 use Rattle.rules.proofs.Sets.{sets-right}
 
--- ---- the sums by the remainder
+-- ---- the sums: the remainders after each byte leave the remainder of the whole
 
-unfoldable pub lowMod : ℕ → List ℕ → ℕ
-lowMod a [] = a
-lowMod a (b ∷ bs) = lowMod ((a + b) % 65521) bs
-
-unfoldable pub highMod : ℕ → ℕ → List ℕ → ℕ
-highMod a h [] = h
-highMod a h (b ∷ bs) = highMod ((a + b) % 65521) ((h + (a + b) % 65521) % 65521) bs
-
--- a comparison and a subtraction, of a sum of two numbers of which one is below the modulus and the other at most it
-pub reduced-mod : (x : ℕ) → x < 2 * modulus → reduced x ≡ x % modulus
-unfolding reduced
-reduced-mod x h =
-    split (ltb x modulus)
-    (λ e. let k : x < modulus = ltb-true x modulus e in rw e (omega arith))
-    (λ e. let k : modulus ≤ x = ltb-false x modulus e in rw e (omega arith))
-
-pub low-mod : (a : ℕ) (bs : List ℕ) → a < modulus → Bytes bs → low a bs ≡ lowMod a bs
-unfolding low lowMod
-low-mod a [] h k = refl
-low-mod a (b ∷ bs) h k =
-    let c = k 0 in
-    let e : reduced (a + b) ≡ (a + b) % 65521 = (reduced-mod (a + b) (omega arith)) in
-    ap (λ (x : ℕ). low x bs) e ∙ low-mod ((a + b) % 65521) bs (mod-lt (a + b) {m = 65521} (omega arith)) (λ i. k (suc i))
-
-pub high-mod : (a h : ℕ) (bs : List ℕ) → a < modulus → h < modulus → Bytes bs → high a h bs ≡ highMod a h bs
-unfolding high highMod
-high-mod a h [] l m k = refl
-high-mod a h (b ∷ bs) l m k =
-    let c = k 0 in
-    let l′ : (a + b) % 65521 < 65521 = mod-lt (a + b) {m = 65521} (omega arith) in
-    let e : reduced (a + b) ≡ (a + b) % 65521 = (reduced-mod (a + b) (omega arith)) in
-    let f : reduced (h + (a + b) % 65521) ≡ (h + (a + b) % 65521) % 65521 = (reduced-mod (h + (a + b) % 65521) (omega arith)) in
-    ap (λ (x : ℕ). high x (reduced (h + x)) bs) e ∙ ap (λ (x : ℕ). high ((a + b) % 65521) x bs) f
-    ∙ high-mod ((a + b) % 65521) ((h + (a + b) % 65521) % 65521) bs l′ (mod-lt (h + (a + b) % 65521) {m = 65521} (omega arith)) (λ i. k (suc i))
-
-pub check-mod : (bs : List ℕ) → Bytes bs → check bs ≡ highMod 1 0 bs * 65536 + lowMod 1 bs
-unfolding check
-check-mod bs k = ap₂ (λ (x y : ℕ). x * 65536 + y) (high-mod 1 0 bs (omega arith) (omega arith) k) (low-mod 1 bs (omega arith) k)
-
--- both sums stay below 65521
-pub low-lt : (a : ℕ) (bs : List ℕ) → a < 65521 → lowMod a bs < 65521
-unfolding lowMod
-low-lt a [] h = h
-low-lt a (b ∷ bs) h = low-lt ((a + b) % 65521) bs (mod-lt (a + b) {m = 65521} (omega arith))
-
-pub high-lt : (a h : ℕ) (bs : List ℕ) → h < 65521 → highMod a h bs < 65521
-unfolding highMod
-high-lt a h [] k = k
-high-lt a h (b ∷ bs) k = high-lt ((a + b) % 65521) ((h + (a + b) % 65521) % 65521) bs (mod-lt (h + (a + b) % 65521) {m = 65521} (omega arith))
-
--- ---- the sums, not reduced
-
-low-sum : (a : ℕ) (bs : List ℕ) → a < 65521 → lowMod a bs ≡ (a + total bs) % 65521
-unfolding lowMod total
+pub low-sum : (a : ℕ) (bs : List ℕ) → a < modulus → low a bs ≡ (a + total bs) % modulus
+unfolding low reduced total
 low-sum a [] h = omega arith
-low-sum a (b ∷ bs) h = low-sum ((a + b) % 65521) bs (omega arith) ∙ omega arith
+low-sum a (b ∷ bs) h = low-sum ((a + b) % modulus) bs (omega arith) ∙ omega arith
 
 scale : (l y : ℕ) → l * y ≡ 65521 * (l * (y / 65521)) + l * (y % 65521)
 scale l y = ap (λ z. l * z) (sym (div-add-mod y 65521)) ∙ mul-add l (65521 * (y / 65521)) (y % 65521) ∙ ap (λ z. z + l * (y % 65521)) (mul-left-comm l 65521 (y / 65521))
 
-high-sum : (a h : ℕ) (bs : List ℕ) → h < 65521 → highMod a h bs ≡ (h + length bs * a + weighted bs) % 65521
-unfolding highMod weighted
+pub high-sum : (a h : ℕ) (bs : List ℕ) → h < modulus → high a h bs ≡ (h + length bs * a + weighted bs) % modulus
+unfolding high reduced weighted
 high-sum a h [] l = rw zero-mul (omega arith)
 high-sum a h (b ∷ bs) l =
-    high-sum ((a + b) % 65521) ((h + (a + b) % 65521) % 65521) bs (omega arith)
+    high-sum ((a + b) % modulus) ((h + (a + b) % modulus) % modulus) bs (omega arith)
     ∙ rw (suc-mul (length bs) a, suc-mul (length bs) b) (omega (arith, scale (length bs) (a + b), mul-add (length bs) a b))
 
 -- THE CHECK IS TWO SUMS MODULO 65521: of 1 and the bytes; of the low sums after each byte, so that each counts from itself to the end
+pub check-mod : (bs : List ℕ) → check bs ≡ (length bs + weighted bs) % modulus * 65536 + (1 + total bs) % modulus
+unfolding check
+check-mod bs = ap₂ (λ (x y : ℕ). x * 65536 + y) (high-sum 1 0 bs (omega arith) ∙ ap (λ (z : ℕ). z % modulus) (omega arith)) (low-sum 1 bs (omega arith))
+
+-- the same of bytes, as requirement 1 has it
 pub check-sums : (bs : List ℕ) → Bytes bs → check bs ≡ (length bs + weighted bs) % modulus * 65536 + (1 + total bs) % modulus
-check-sums bs k = check-mod bs k ∙ ap₂ (λ (x y : ℕ). x * 65536 + y) (high-sum 1 0 bs (omega arith) ∙ ap (λ (z : ℕ). z % modulus) (omega arith)) (low-sum 1 bs (omega arith))
+check-sums bs k = check-mod bs
 
 -- ---- one byte changes
 
@@ -139,16 +89,16 @@ check-updated xs i v hx hv h =
     let a : ℕ = length xs + weighted (set xs i 0) in
     let b : ℕ = 1 + total (set xs i 0) in
     let old : check xs ≡ (a + n * u) % 65521 * 65536 + (b + 1 * u) % 65521 =
-    subst (λ (l : List ℕ). check l ≡ (a + n * u) % 65521 * 65536 + (b + 1 * u) % 65521) (set-getD xs i 0) (at-place u (hx i)) in
+    subst (λ (l : List ℕ). check l ≡ (a + n * u) % 65521 * 65536 + (b + 1 * u) % 65521) (set-getD xs i 0) (at-place u) in
     let top : check xs / 65536 ≡ (a + n * u) % 65521 = omega arith in
     let bottom : check xs % 65536 ≡ (b + 1 * u) % 65521 = omega arith in
-    at-place v hv
+    at-place v
     ∙ sym (ap₂ (λ (x y : ℕ). x * 65536 + y) (ap (λ (z : ℕ). moved z n u v) top ∙ moved-sum a n u v) (ap (λ (z : ℕ). moved z 1 u v) bottom ∙ moved-sum b 1 u v))
   where
-    at-place : (w : ℕ) → w < 256
+    at-place : (w : ℕ)
         → check (set xs i w) ≡ (length xs + weighted (set xs i 0) + (length xs - i) * w) % 65521 * 65536 + (1 + total (set xs i 0) + 1 * w) % 65521
-    at-place w hw =
-        check-sums (set xs i w) (bytes-set xs i w hx hw)
+    at-place w =
+        check-mod (set xs i w)
         ∙ ap₂ (λ (x y : ℕ). x % 65521 * 65536 + y % 65521) (rw (length-set xs i w, weighted-set xs i w h) (omega arith)) (rw (total-set xs i w h) (omega arith))
 
 -- a byte of the body, in the bytes that the check covers
@@ -163,4 +113,4 @@ covered-set h b j v e =
 
 -- the check of bytes fits 4 bytes
 pub check-lt : (bs : List ℕ) → Bytes bs → check bs < 2 ^ 32
-check-lt bs k = rw (check-mod bs k) (omega (arith, low-lt 1 bs (omega arith), high-lt 1 0 bs (omega arith)))
+check-lt bs k = rw (check-mod bs) (omega arith)

@@ -1,17 +1,15 @@
 -- The check (01, "The pool's bytes"): two sums modulo 65521, of whole bytes and brought up to date. Assumes nothing.
 use Prim.Native.Nat.{ℕ, suc, _+_, _-_, _*_, _/_, _%_}
-use mathlib.Core.Bool.{cond}
 use mathlib.Core.List.{List, [], _∷_}
 use lib.ListN.{length}
-use lib.Dec.{ltb}
 use lib.IntN.{ℤ, pos, negsuc, _-ℤ_, _*ℤ_}
 
 abbrev pub modulus : ℕ
 modulus = 65521
 
--- Each sum is kept below 65521 by a comparison and a subtraction.
+-- Each sum is kept below 65521 by a remainder.
 unfoldable pub reduced : ℕ → ℕ
-reduced x = cond (ltb x modulus) x (x - modulus)
+reduced x = x % modulus
 
 -- The low sum, a so far, adds each byte.
 unfoldable pub low : ℕ → List ℕ → ℕ

@@ -1,14 +1,16 @@
--- Laws of the running sums: over parts in a row (`low-append`, `high-append`, `fed-append`), byte by byte, and what the check is of them.
--- Assumes nothing.
-use Prim.Native.Nat.{ℕ, _+_, _*_, _<_, _≤_}
+-- Laws of the running sums: over parts in a row (`low-append`, `high-append`, `fed-append`), what the check is of them, and over a
+-- block, not reduced before its end (`adding-step`, `fed-block`). Assumes nothing.
+use Prim.Native.Nat.{ℕ, suc, _+_, _*_, _<_, _≤_}
 use mathlib.Core.Path.{_≡_, refl, sym, ap, ap₂, _∙_}
 use mathlib.Core.List.{List, [], _∷_, _++_}
+use native.Mathlib.Nat.{mul-add, suc-mul, zero-mul}
 use native.Mathlib.Numerals.{add-one}
 use native.Mathlib.Omega.{arith}
 use lib.ListN.{length, drop, getD}
 use lib.Seq.{drop-cons, drop-length}
-use Rattle.rules.specs.Check.{check, high, low, reduced}
-use Rattle.sums.specs.Fed.{Below, Fed, Started}
+use Rattle.rules.specs.Check.{check, high, low, reduced, total, weighted}
+use Rattle.rules.proofs.Check.{high-sum, low-sum}
+use Rattle.sums.specs.Fed.{Added, Below, Fed, Started}
 
 pub low-append : (a : ℕ) (xs ys : List ℕ) → low a (xs ++ ys) ≡ low (low a xs) ys
 unfolding low
@@ -35,30 +37,50 @@ unfolding check
 fed-check {bs = bs} s d =
     ap₂ (λ (x y : ℕ). x * 65536 + y) (d .high-is ∙ ap₂ (λ (x y : ℕ). high x y bs) (s .low-is) (s .high-is)) (d .low-is ∙ ap (λ (x : ℕ). low x bs) (s .low-is))
 
--- ---- the loop over bytes: the sums l and g, with the bytes from i on to go
+-- ---- the loop over a block: the sums l and g, with the bytes from i on to go
 
-pub record Feeding (a h : ℕ) (bs : List ℕ) (l g i : ℕ) : Type 0 where
+pub record Adding (a h : ℕ) (bs : List ℕ) (l g i : ℕ) : Type 0 where
   pub le : i ≤ length bs
-  pub low-is : low l (drop i bs) ≡ low a bs
-  pub high-is : high l g (drop i bs) ≡ high a h bs
-  pub below : Below l g
+  pub low-is : l + total (drop i bs) ≡ a + total bs
+  pub high-is : g + length (drop i bs) * l + weighted (drop i bs) ≡ h + length bs * a + weighted bs
+  pub low-le : l ≤ 65520 + 255 * i
+  pub high-le : g ≤ 65520 + 587760 * i
 
-pub feeding-start : {a h : ℕ} {bs : List ℕ} → Below a h → Feeding a h bs a h 0
-feeding-start b = record { le = omega arith; low-is = refl; high-is = refl; below = b }
+pub adding-start : {a h : ℕ} {bs : List ℕ} → Below a h → Adding a h bs a h 0
+adding-start b = record { le = omega arith; low-is = refl; high-is = refl; low-le = omega (arith, b .low-lt); high-le = omega (arith, b .high-lt) }
 
-pub feeding-step : {a h : ℕ} {bs : List ℕ} {l g l′ g′ i : ℕ} → Feeding a h bs l g i → i < length bs
-    → l′ ≡ reduced (l + getD bs i 0) → g′ ≡ reduced (g + l′) → Below l′ g′ → Feeding a h bs l′ g′ (i + 1)
-unfolding low high
-feeding-step {bs = bs} {i = i} f k p q b =
+-- the low sum stays within 65,520 + 255 × 2,048 = 587,760, and the high one adds it
+pub adding-step : {a h : ℕ} {bs : List ℕ} {l g b i : ℕ} → Adding a h bs l g i → i < length bs → length bs ≤ 2048 → b ≡ getD bs i 0 → b < 256
+    → Adding a h bs (l + b) (g + (l + b)) (i + 1)
+unfolding total weighted
+adding-step {bs = bs} {l = l} {i = i} f k m e c =
+    let r : List ℕ = drop (suc i) bs in
     record {
       le = omega arith;
-      low-is = rw (p, add-one) (rw (drop-cons bs i 0 k) at (f .low-is));
-      high-is = rw (q, p, add-one) (rw (drop-cons bs i 0 k) at (f .high-is));
-      below = b;
+      low-is = rw (e, add-one) (omega (arith, rw (drop-cons bs i 0 k) at (f .low-is)));
+      high-is = rw (e, add-one) (omega (arith, rw (drop-cons bs i 0 k) at (f .high-is), suc-mul (length r) l, suc-mul (length r) (getD bs i 0), mul-add (length r) l (getD bs i 0)));
+      low-le = omega (arith, f .low-le);
+      high-le = omega (arith, f .low-le, f .high-le);
     }
 
-pub feeding-end : {a h : ℕ} {bs : List ℕ} {l g i : ℕ} → Feeding a h bs l g i → length bs ≤ i → Fed a h bs l g
-unfolding low high
-feeding-end {bs = bs} {i = i} f k =
+pub adding-end : {a h : ℕ} {bs : List ℕ} {l g i : ℕ} → Adding a h bs l g i → length bs ≤ i → Added a h bs l g
+unfolding total weighted
+adding-end {bs = bs} {l = l} {i = i} f k =
     let e : i ≡ length bs = omega (arith, f .le) in
-    record { low-is = rw (e, drop-length) at (f .low-is); high-is = rw (e, drop-length) at (f .high-is); below = f .below }
+    record { low-is = omega (arith, rw (e, drop-length) at (f .low-is)); high-is = omega (arith, rw (e, drop-length) at (f .high-is), zero-mul l) }
+
+-- ---- the loop over blocks
+
+pub fed-start : {a h : ℕ} → Below a h → Fed a h [] a h
+unfolding low high
+fed-start b = record { low-is = refl; high-is = refl; below = b }
+
+-- a block's sums, reduced
+pub fed-block : {a h b g l k : ℕ} {bs : List ℕ} → Below a h → Added a h bs b g → (l ≡ reduced b) × (k ≡ reduced g) × Below l k → Fed a h bs l k
+unfolding reduced
+fed-block {a} {h} {bs = bs} s d r =
+    record {
+      low-is = r .0 ∙ ap reduced (d .low-is) ∙ sym (low-sum a bs (s .low-lt));
+      high-is = r .1 ∙ ap reduced (d .high-is) ∙ sym (high-sum a h bs (s .high-lt));
+      below = r .2;
+    }

@@ -1,23 +1,22 @@
 // The check (01, "The pool's bytes"): its two sums over bytes that come in parts, and brought up to date when bytes change.
 ghost use mathlib.Core.Path.{_≡_};
-ghost use Prim.Native.Nat.{_+_, _*_, _≤_, _<_};
+ghost use Prim.Native.Nat.{_+_, _*_, _≤_, _<_, min};
 ghost use lib.IntN.{pos, _-ℤ_, _*ℤ_};
 ghost use lib.Signed.{mag};
 ghost use lib.ListN.{length};
 ghost use Rattle.rules.specs.Check.{check as checkOf, modulus, moved as movedSum, reduced, residue as residueOf, updated as updatedCheck};
-ghost use Rattle.sums.specs.Fed.{Below, Fed, Started, updatedRange};
+ghost use Rattle.sums.specs.Fed.{Added, Below, Fed, Started, updatedRange};
 
 pub struct Sums {
     pub low: u32,
     pub high: u32,
 }
 
-// A sum kept below 65521 by a comparison and a subtraction.
-fn reduce(x: u32) -> u32
-    requires { ⌜ x < 131042 ⌝ }
-    ensures { λ r. ⌜ (r ≡ reduced x) × (r < modulus) ⌝ }
+// The length of the next block, of `left` bytes. In 2,048 bytes neither sum outgrows 32 bits.
+fn block_length(left: usize) -> usize
+    ensures { λ r. ⌜ r ≡ min left 2048 ⌝ }
 {
-    if x < 65521 { x } else { x - 65521 }
+    if left < 2048 { left } else { 2048 }
 }
 
 impl Sums {
@@ -28,20 +27,45 @@ impl Sums {
         Sums { low: 1, high: 0 }
     }
 
-    // The sums after the bytes of `part`.
-    pub fn feed(self, part: &[u8]) -> Sums
-        requires { ⌜ Below (self .low) (self .high) ⌝ }
-        ensures { λ r. ⌜ Fed (self .low) (self .high) (now (part .entry)) (r .low) (r .high) ⌝ }
+    // The sums after the bytes of `block`, not reduced.
+    fn add(self, block: &[u8]) -> Sums
+        requires { ⌜ Below (self .low) (self .high) × (length (now block) ≤ 2048) ⌝ }
+        ensures { λ r. ⌜ Added (self .low) (self .high) (now (block .entry)) (r .low) (r .high) ⌝ }
     {
         let mut low = self.low;
         let mut high = self.high;
         let mut i = 0;
-        while i < part.len() {
-            low = reduce(low + wide(part[i]));
-            high = reduce(high + low);
+        while i < block.len() {
+            low += wide(block[i]);
+            high += low;
             i += 1;
         }
         Sums { low, high }
+    }
+
+    // Each sum kept below 65521 by a remainder.
+    fn reduce(self) -> Sums
+        ensures { λ r. ⌜ (r .low ≡ reduced (self .low)) × (r .high ≡ reduced (self .high)) × Below (r .low) (r .high) ⌝ }
+    {
+        Sums {
+            low: self.low % 65521,
+            high: self.high % 65521,
+        }
+    }
+
+    // The sums after the bytes of `part`, reduced at the end of each block.
+    pub fn feed(self, part: &[u8]) -> Sums
+        requires { ⌜ Below (self .low) (self .high) ⌝ }
+        ensures { λ r. ⌜ Fed (self .low) (self .high) (now (part .entry)) (r .low) (r .high) ⌝ }
+    {
+        let mut sums = self;
+        let mut i = 0;
+        while i < part.len() {
+            let n = block_length(part.len() - i);
+            sums = sums.add(&part[i..i + n]).reduce();
+            i += n;
+        }
+        sums
     }
 
     // The check: high × 65536 + low.

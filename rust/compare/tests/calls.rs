@@ -3,7 +3,7 @@
 use compare::calls::{compare, Answer, Call, Given};
 use compare::layout::{behind_body, fault, object_heads, objects, pool_id, pool_shape, put_headers, Fault, Shape, CELL, LARGEST, LOGS};
 use compare::random::Random;
-use compare::{pools, requests, times};
+use compare::{layout, pools, requests, times};
 use std::collections::{BTreeMap, BTreeSet};
 
 /// What each call can answer. `2` stands twice: "2 short" under 512 bytes, "2 length" after the headers. `25` stands for what is wrong with the
@@ -380,13 +380,26 @@ fn calls_on_the_largest_pools() {
     comparison.print();
 }
 
+/// So many bytes of which the first 257 bring the low sum to 65520, its most, then as many bytes FF.
+fn from_the_highest_sum(length: usize) -> Vec<u8> {
+    let mut bytes = vec![0xFF; 256];
+    bytes.push(239);
+    bytes.resize(length, 0);
+    bytes.resize(2 * length, 0xFF);
+    bytes
+}
+
+/// Each is also the check by a remainder at every byte, which the tests work out themselves. At 2,048 and 4,096 bytes a block between two
+/// remainders ends; 32 bits hold the high sum of 5,552 bytes without one, and not of more.
 #[test]
 fn check_of_random_bytes() {
     let mut comparison = Comparison::new(3);
     let mut given = Given::new(Vec::new(), Vec::new());
-    for length in (0..600).chain([5551, 5552, 5553, 65520, 65521, 65522, 1 << 20]) {
-        let bytes = comparison.random.bytes(length);
-        comparison.make(&Call::Check(bytes), &mut given);
-        comparison.make(&Call::Check(vec![0xFF; length]), &mut given);
+    let blocks = (2047..=2049).chain(4095..=4097);
+    for length in (0..600).chain(blocks).chain([5551, 5552, 5553, 65520, 65521, 65522, 1 << 20]) {
+        for bytes in [comparison.random.bytes(length), vec![0xFF; length], from_the_highest_sum(length)] {
+            let right = Answer::Sum(layout::check(&bytes));
+            assert_eq!(compare(&Call::Check(bytes), &mut given, comparison.random.below(16)), right, "{length} bytes");
+        }
     }
 }

@@ -61,14 +61,34 @@ fn sound(objects: usize) -> Counts {
     Counts { refusal: 0, objects, damaged: 0, broken: 0, columns: 0 }
 }
 
+/// The checks of so many bytes FF, and of as many that are 7 times their place: about the 2,048 bytes between two remainders, and one more
+/// than the 5,552 whose high sum 32 bits hold without a remainder.
+const CHECKS: [(usize, u32, u32); 5] = [
+    (2047, 0xE9F2_F76B, 0x2598_FB35),
+    (2048, 0xE26B_F86A, 0x21D5_FC2E),
+    (2049, 0xDBE3_F969, 0x1E12_FC2E),
+    (4096, 0x8161_F0E2, 0x21E8_F86A),
+    (5553, 0x8E29_9C8B, 0x269A_CBFF),
+];
+
 #[test]
 fn checks() {
     assert_eq!(check(b""), 0x0000_0001);
     assert_eq!(check(b"abc"), 0x024D_0127);
     assert_eq!(check(&[255; 70_000]), zlib_rule(&[255; 70_000]));
+    for (length, of_ones, of_ramp) in CHECKS {
+        let ones = vec![255; length];
+        let ramp: Vec<u8> = (0..length).map(|place| (7 * place) as u8).collect();
+        assert_eq!((check(&ones), check(&ramp)), (of_ones, of_ramp), "{length} bytes");
+        assert_eq!((zlib_rule(&ones), zlib_rule(&ramp)), (of_ones, of_ramp), "{length} bytes");
+        let mut high = [[255; 256].as_slice(), &[239]].concat(); // the low sum is 65520, its most, after these
+        high.resize(length, 0);
+        high.extend(ones);
+        assert_eq!(check(&high), zlib_rule(&high), "{length} bytes FF from the highest sum on");
+    }
 }
 
-/// The check with its sums reduced by division.
+/// The check with each sum reduced once, at the end.
 fn zlib_rule(bytes: &[u8]) -> u32 {
     let step = |(low, high): (u64, u64), &byte: &u8| (low + u64::from(byte), high + low + u64::from(byte));
     let (low, high) = bytes.iter().fold((1, 0), step);

@@ -1,32 +1,78 @@
-/* The byte loop of document 01's check, and the work of a scrub over a well-formed pool. */
+/* Document 01's check over blocks and in two other ways, and the work of a scrub over a well-formed pool. */
 #include <stddef.h>
 #include <stdint.h>
 #include <string.h>
 
 enum { PAGE = 256, CELL = 64, HEAD = 16, ZONES = 18 * PAGE, MODULUS = 65521, OBJECT = 2 };
 
+/* From sums below 65521 so many bytes bring the high one to at most 1,203,798,000. */
+enum { BLOCK = 2048 };
+
 struct sums {
     uint32_t low, high;
 };
 
+static const struct sums START = {1, 0};
+
+static uint32_t value(struct sums sums)
+{
+    return sums.high << 16 | sums.low;
+}
+
+/* With a remainder at the end of each block. */
 static struct sums add(struct sums sums, const uint8_t *bytes, size_t length)
 {
-    uint32_t low = sums.low, high = sums.high;
-    for (size_t i = 0; i < length; i++) {
-        low += bytes[i];
-        if (low >= MODULUS)
-            low -= MODULUS;
-        high += low;
-        if (high >= MODULUS)
-            high -= MODULUS;
+    while (length > 0) {
+        size_t block = length < BLOCK ? length : BLOCK;
+        for (size_t i = 0; i < block; i++) {
+            sums.low += bytes[i];
+            sums.high += sums.low;
+        }
+        sums.low %= MODULUS;
+        sums.high %= MODULUS;
+        bytes += block;
+        length -= block;
     }
-    return (struct sums){low, high};
+    return sums;
 }
 
 uint32_t loop_check(const uint8_t *bytes, size_t length)
 {
-    struct sums sums = add((struct sums){1, 0}, bytes, length);
-    return sums.high << 16 | sums.low;
+    return value(add(START, bytes, length));
+}
+
+/* Each sum is brought below 65521 at every byte. */
+static inline uint32_t check_by(uint32_t reduced(uint32_t sum), const uint8_t *bytes, size_t length)
+{
+    struct sums sums = START;
+    for (size_t i = 0; i < length; i++) {
+        sums.low = reduced(sums.low + bytes[i]);
+        sums.high = reduced(sums.high + sums.low);
+    }
+    return value(sums);
+}
+
+static inline uint32_t by_branch(uint32_t sum)
+{
+    if (sum < MODULUS)
+        return sum;
+    __asm__ volatile(""); /* else the compiler makes a conditional move of the branch */
+    return sum - MODULUS;
+}
+
+static inline uint32_t by_remainder(uint32_t sum)
+{
+    return sum % MODULUS;
+}
+
+uint32_t branch_check(const uint8_t *bytes, size_t length)
+{
+    return check_by(by_branch, bytes, length);
+}
+
+uint32_t remainder_check(const uint8_t *bytes, size_t length)
+{
+    return check_by(by_remainder, bytes, length);
 }
 
 static uint32_t number(const uint8_t *bytes, size_t length)
@@ -40,13 +86,13 @@ static uint32_t number(const uint8_t *bytes, size_t length)
 static int object_is_damaged(const uint8_t *head)
 {
     size_t length = number(head + 4, 4);
-    struct sums sums = add((struct sums){1, 0}, head, 8);
+    struct sums sums = add(START, head, 8);
     sums = add(sums, head + 12, 4);
     sums = add(sums, head + HEAD, length);
     uint8_t stray = 0;
     for (size_t i = HEAD + length; i < number(head + 2, 2) * CELL; i++)
         stray |= head[i];
-    return stray != 0 || number(head + 8, 4) != (sums.high << 16 | sums.low);
+    return stray != 0 || number(head + 8, 4) != value(sums);
 }
 
 static int column_is_wrong(const uint8_t *page, size_t rows, size_t row)

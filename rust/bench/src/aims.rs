@@ -3,8 +3,8 @@ use crate::chosen::{Beside, RECOVERY, SAVE_AND_FREE, WITH_BARRIERS};
 use crate::report::{markdown, Row};
 use crate::runs::{find, two_digits, Runs, Spread};
 
-/// Speed over plain Rust before there were calls that go on to the next barrier; plain Rust's check and repair are the same since, and its scrub
-/// judges the bytes behind bodies too, as the library's does. On an AMD EPYC, the median of seven runs.
+/// Speed over plain Rust before there were calls that go on to the next barrier. Since then plain Rust's repair is the same, its check adds
+/// over blocks, and its scrub does so too and judges the bytes behind bodies, as the library's. On an AMD EPYC, the median of seven runs.
 const BEFORE: [(&str, &str, f64); 8] = [
     ("check", "496 bytes", 0.99),
     ("check", "64 KiB", 1.04),
@@ -22,6 +22,12 @@ const TOLERANCE: f64 = 0.95;
 /// A call of a transaction is to have at least so much of the speed of plain Rust.
 const OF_PLAIN_RUST: f64 = 0.8;
 
+/// The check is to have at least so much of the speed of zlib's.
+const OF_ZLIB: f64 = 0.8;
+
+/// Whatever the bytes are, a check is to take at most so many times what it takes for others.
+const EVEN: f64 = 1.1;
+
 /// An aim, what was measured, and whether it is met.
 type Line = [String; 3];
 
@@ -33,6 +39,8 @@ pub fn table(runs: &Runs) -> String {
         at_most_pmemobj(runs, "the same with barriers passed, as libpmemobj's are: at most 1.5 times its time", WITH_BARRIERS, 1.5),
         faster_than_steps(runs, "save and free of 120 bytes: at least 6 times faster by advance than by steps", SAVE_AND_FREE, 6.0),
         faster_than_steps(runs, "recovery of 127 entries: at least 20 times faster by advance than by steps", RECOVERY, 20.0),
+        beside_zlib(&rows),
+        even(&rows),
         not_slower(&rows),
         calls(&rows),
         linear(&rows, "ascending"),
@@ -62,10 +70,22 @@ fn shown(spread: Spread) -> String {
 fn at_most_pmemobj(runs: &Runs, aim: &str, row: (&str, &str), most: f64) -> Line {
     let times = |row: &Row| Beside::Other("libpmemobj").time(row).map(|time| row.library / time);
     match ratio(runs, row, times) {
-        Some(spread) if spread.median <= most => line(aim, shown(spread), "yes".to_owned()),
-        Some(spread) => line(aim, shown(spread), format!("no: {} times too long", two_digits(spread.median / most))),
-        None => line(aim, "libpmemobj or clwb is not there".to_owned(), "not known".to_owned()),
+        Some(spread) => line(aim, shown(spread), at_most(spread.median, most)),
+        None => not_known(aim, "libpmemobj or clwb"),
     }
+}
+
+/// Whether the aim is met to take at most so many times as long as the other.
+fn at_most(times: f64, most: f64) -> String {
+    if times <= most {
+        "yes".to_owned()
+    } else {
+        format!("no: {} times too long", two_digits(times / most))
+    }
+}
+
+fn not_known(aim: &str, missing: &str) -> Line {
+    line(aim, format!("{missing} is not there"), "not known".to_owned())
 }
 
 fn faster_than_steps(runs: &Runs, aim: &str, row: (&str, &str), least: f64) -> Line {
@@ -74,24 +94,47 @@ fn faster_than_steps(runs: &Runs, aim: &str, row: (&str, &str), least: f64) -> L
     line(aim, shown(spread), met)
 }
 
+/// Each of these rows is to have at least this ratio.
+fn at_least(aim: &str, ratios: &[(&Row, f64)], least: f64) -> Line {
+    let (row, smallest) = ratios.iter().min_by(|a, b| a.1.total_cmp(&b.1)).unwrap();
+    let below = ratios.iter().filter(|(_, ratio)| *ratio < least).count();
+    let met = if below == 0 { "yes".to_owned() } else { format!("no, in {below} of {} rows", ratios.len()) };
+    line(aim, format!("at least {} ({}, {})", two_digits(*smallest), row.what, row.size), met)
+}
+
+/// Check beside zlib's.
+fn beside_zlib(rows: &[Row]) -> Line {
+    let aim = "check of 496 bytes and of 64 KiB: at 0.8 of zlib or better";
+    let checks = ["496 bytes", "64 KiB"].map(|size| find(rows, "check", size));
+    let ratios: Option<Vec<(&Row, f64)>> = checks.iter().map(|&row| row.other("zlib").map(|time| (row, time / row.library))).collect();
+    ratios.map_or_else(|| not_known(aim, "zlib"), |ratios| at_least(aim, &ratios, OF_ZLIB))
+}
+
+/// The library's check over bytes of three kinds, one beside the other.
+fn even(rows: &[Row]) -> Line {
+    let mut checks = ["check, all 00", "check, all FF", "check, random"].map(|what| find(rows, what, "496 bytes"));
+    checks.sort_by(|a, b| a.library.total_cmp(&b.library));
+    let [fastest, _, slowest] = checks;
+    let times = slowest.library / fastest.library;
+    let measured = format!("the slowest ({}) takes {} times as long as the fastest ({})", slowest.what, two_digits(times), fastest.what);
+    line("check of 496 bytes, all 00, all FF and random: within a tenth of each other", measured, at_most(times, EVEN))
+}
+
 /// Check, scrub and repair beside plain Rust, now and before.
 fn not_slower(rows: &[Row]) -> Line {
-    let now = BEFORE.map(|(what, size, before)| (what, size, find(rows, what, size).ratio() / before));
-    let (what, size, least) = now.into_iter().min_by(|a, b| a.2.total_cmp(&b.2)).unwrap();
-    let slower = now.iter().filter(|(_, _, of_before)| *of_before < TOLERANCE).count();
-    let met = if slower == 0 { "yes".to_owned() } else { format!("no, in {slower} of {} rows", BEFORE.len()) };
+    let of_before = BEFORE.map(|(what, size, before)| {
+        let row = find(rows, what, size);
+        (row, row.ratio() / before)
+    });
     let aim = "check, scrub and repair not slower than before, measured by plain Rust: at least 0.95 of the ratio then";
-    line(aim, format!("at least {} ({what}, {size})", two_digits(least)), met)
+    at_least(aim, &of_before, TOLERANCE)
 }
 
 /// Allocate, write and free beside plain Rust.
 fn calls(rows: &[Row]) -> Line {
-    let calls: Vec<&Row> = rows.iter().filter(|row| ["transaction", "growth"].contains(&row.group)).collect();
-    let least = calls.iter().min_by(|a, b| a.ratio().total_cmp(&b.ratio())).unwrap();
-    let below = calls.iter().filter(|row| row.ratio() < OF_PLAIN_RUST).count();
-    let met = if below == 0 { "yes".to_owned() } else { format!("no, in {below} of {} rows", calls.len()) };
-    let measured = format!("at least {} ({}, {})", two_digits(least.ratio()), least.what, least.size);
-    line("allocate, write and free: at 0.8 of plain Rust or better in every row", measured, met)
+    let calls = rows.iter().filter(|row| ["transaction", "growth"].contains(&row.group));
+    let ratios: Vec<(&Row, f64)> = calls.map(|row| (row, row.ratio())).collect();
+    at_least("allocate, write and free: at 0.8 of plain Rust or better in every row", &ratios, OF_PLAIN_RUST)
 }
 
 /// What an entry adds to a whole commit, from 60 to 127 over from 10 to 60.

@@ -8,6 +8,8 @@ mod boundary {
 
     extern "C" {
         pub fn loop_check(bytes: *const u8, length: usize) -> u32;
+        pub fn branch_check(bytes: *const u8, length: usize) -> u32;
+        pub fn remainder_check(bytes: *const u8, length: usize) -> u32;
         pub fn loop_scrub(pool: *const u8, rows: usize, cols: usize, zones: usize) -> usize;
     }
     #[cfg(zlib)]
@@ -44,8 +46,20 @@ use crate::measure::Timed;
 #[cfg(pmemobj)]
 use {crate::measure::timed, std::time::Instant};
 
+pub type Check = fn(&[u8]) -> u32;
+
 pub fn loop_check(bytes: &[u8]) -> u32 {
     unsafe { boundary::loop_check(bytes.as_ptr(), bytes.len()) }
+}
+
+/// The check with each sum brought below 65521 at every byte, in two ways, and zlib's.
+pub fn other_checks() -> Vec<(&'static str, Check)> {
+    let mut checks: Vec<(&'static str, Check)> = vec![
+        ("C with a branch a byte", |bytes| unsafe { boundary::branch_check(bytes.as_ptr(), bytes.len()) }),
+        ("C with a remainder a byte", |bytes| unsafe { boundary::remainder_check(bytes.as_ptr(), bytes.len()) }),
+    ];
+    checks.extend(zlib_check().map(|check| ("zlib", check)));
+    checks
 }
 
 /// Damaged objects and wrong columns of a well-formed pool.
@@ -55,12 +69,12 @@ pub fn loop_scrub(pool: &Pool, shape: Shape) -> usize {
 }
 
 #[cfg(zlib)]
-pub fn zlib_check() -> Option<fn(&[u8]) -> u32> {
+fn zlib_check() -> Option<Check> {
     Some(|bytes| unsafe { boundary::zlib_check(bytes.as_ptr(), bytes.len()) })
 }
 
 #[cfg(not(zlib))]
-pub fn zlib_check() -> Option<fn(&[u8]) -> u32> {
+fn zlib_check() -> Option<Check> {
     None
 }
 

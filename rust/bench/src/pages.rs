@@ -2,23 +2,45 @@
 use crate::fixture::{filled, Pool, Shape, LARGEST, PAGE, SMALL};
 use crate::library::{PLAIN, PROVED};
 use crate::measure::{best, timed};
-use crate::native;
+use crate::native::{self, Check};
 use crate::report::{Row, Unit};
 use std::cell::RefCell;
 use std::hint::black_box;
 
 pub fn check() -> Vec<Row> {
     let bytes: Vec<u8> = (0..65_536u32).map(|i| ((i * i) >> 7) as u8).collect();
-    [(496, "496 bytes"), (65_536, "64 KiB")].map(|(length, size)| check_row(&bytes[..length], size)).into()
+    vec![
+        check_row("check", "496 bytes", &bytes[..496], 496),
+        check_row("check", "64 KiB", &bytes, 65_536),
+        check_row("check, all 00", "496 bytes", &[0; 65_536], 496),
+        check_row("check, all FF", "496 bytes", &[0xFF; 65_536], 496),
+        check_row("check, random", "496 bytes", &random_bytes(65_536), 496),
+    ]
 }
 
-fn check_row(bytes: &[u8], size: &str) -> Row {
-    let mut functions = vec![PROVED.check, PLAIN.check, native::loop_check];
-    functions.extend(native::zlib_check());
-    let right = reference::check(bytes);
-    let times = best(functions.iter().map(|check| timed(move || assert_eq!(check(black_box(bytes)), right))).collect());
-    let row = Row::new("check", "check", size, Unit::Rate { bytes: bytes.len() }, times[0], times[1]);
-    Row { c: Some(times[2]), other: times[3..].iter().map(|&time| ("zlib", time)).collect(), ..row }
+/// The same ones in each run (xorshift).
+fn random_bytes(length: usize) -> Vec<u8> {
+    let mut state = 0x2545_F491u32;
+    let next = || {
+        state ^= state << 13;
+        state ^= state >> 17;
+        state ^= state << 5;
+        (state >> 24) as u8
+    };
+    std::iter::repeat_with(next).take(length).collect()
+}
+
+/// One check of so many bytes, as the mean over all pieces of this length: of one piece that comes again and again a processor learns the
+/// branches, even if its bytes are random.
+fn check_row(what: &str, size: &str, bytes: &[u8], length: usize) -> Row {
+    let pieces: Vec<(&[u8], u32)> = bytes.chunks_exact(length).map(|piece| (piece, reference::check(piece))).collect();
+    let check_all = |check: Check| pieces.iter().for_each(|&(piece, right)| assert_eq!(check(black_box(piece)), right));
+    let others = native::other_checks();
+    let checks = [PROVED.check, PLAIN.check, native::loop_check].into_iter().chain(others.iter().map(|&(_, check)| check));
+    let mut times = best(checks.map(|check| timed(move || check_all(check))).collect());
+    times.iter_mut().for_each(|time| *time /= pieces.len() as f64);
+    let row = Row::new("check", what, size, Unit::Rate { bytes: length }, times[0], times[1]);
+    Row { c: Some(times[2]), other: others.iter().zip(&times[3..]).map(|(&(name, _), &time)| (name, time)).collect(), ..row }
 }
 
 pub fn scrub() -> Vec<Row> {

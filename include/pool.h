@@ -41,7 +41,7 @@ extern "C" {
 #endif
 
 /* The version of this interface: its records, names and numbers. */
-#define POOL_INTERFACE_VERSION 2
+#define POOL_INTERFACE_VERSION 3
 
 /* Bytes of staging memory that a transaction needs, bytes of the longest body, and entries of the longest transaction: distinct words. */
 #define POOL_STAGING 2032
@@ -98,8 +98,8 @@ enum {
  */
 
 /*
- * Answers have three forms, each the least that its call needs. pool_format, pool_mend and pool_repair have nothing to tell but the
- * refusal: they answer its number, or 0. pool_look and pool_scrub answer numbers that can be 0 themselves: the refusal stands beside
+ * Answers have three forms, each the least that its call needs. pool_format and pool_mend have nothing to tell but the refusal: they
+ * answer its number, or 0. pool_look, pool_scrub and pool_repair answer numbers that can be 0 themselves: the refusal stands beside
  * them, in a field of its own. The calls that begin or go on with a transaction or a recovery hand back the record and answer in several
  * kinds: a kind, its value and the record. pool_check cannot be refused and answers the check.
  */
@@ -153,7 +153,13 @@ typedef struct {
     size_t columns;
 } pool_counts;
 
-/* ---- The pool. pool_format, pool_mend and pool_repair answer 0, or the refusal. Pass a barrier after them, before any commit. */
+/* How many bytes of the pool repair altered. If refusal is not 0, altered is 0. */
+typedef struct {
+    size_t refusal;
+    size_t altered;
+} pool_repaired;
+
+/* ---- The pool. pool_format and pool_mend answer 0, or the refusal. Pass a barrier after them and after pool_repair, before any commit. */
 
 /*
  * Makes a fresh pool: `zones` (1 to 16) zones, each of `rows` (1 to 15) data rows and a parity row, `cols` (1 to 64) pages a row. The id
@@ -172,9 +178,10 @@ pool_counts pool_scrub(const uint8_t *pool, size_t pool_length);
 
 /*
  * Rebuilds lost pages from the others of their columns. `lost` has one mask a column, zone by zone: bit r means row r is lost, bit
- * `rows` the parity row. Refusals 2, 3, 4, 21, 8, 28.
+ * `rows` the parity row. Answers how many bytes differ from before, at most 256 for each page named: 0 if every page named was as its
+ * column says. It is no verdict on which page of a column was wrong. Refusals 2, 3, 4, 21, 8, 28.
  */
-size_t pool_repair(uint8_t *pool, size_t pool_length, const uint16_t *lost, size_t lost_length);
+pool_repaired pool_repair(uint8_t *pool, size_t pool_length, const uint16_t *lost, size_t lost_length);
 
 /* The check of these bytes: the two sums of Adler-32. */
 uint32_t pool_check(const uint8_t *bytes, size_t length);

@@ -9,7 +9,7 @@ use examples::calls::write;
 use examples::report::body;
 use examples::report::check;
 use examples::report::entry;
-use examples::report::outcome;
+use examples::report::repaired;
 use examples::report::scrub;
 use record::Phase;
 use record::Record;
@@ -50,7 +50,7 @@ fn bytes(p: &mut [u8], s: &mut [u8]) {
 // The first page of row 0 rebuilt.
 fn repair(p: &mut [u8]) {
     let lost = [1u16, 0];
-    outcome(b"  repair with masks 1, 0: ", pool::repair(p, &lost));
+    repaired(b"  repair with masks 1, 0: ", pool::repair(p, &lost));
     scrub(b"  scrub: ", p);
 }
 
@@ -102,7 +102,7 @@ fn fill(p: &mut [u8]) {
 fn stale(p: &mut [u8]) {
     let lost = [4u16, 4];
     fill(p);
-    outcome(
+    repaired(
         b"5a behind the free head, repair with masks 4, 4: ",
         pool::repair(p, &lost),
     );

@@ -1,8 +1,10 @@
 // Headers mended and pages repaired, and what mending and repair refuse: the bench examples of document 01 on loss masks, and others. What is
 // printed is compared with the stored values in `stdout`, which were worked out apart from this code.
+pub mod repairs; // pages repaired, and how many bytes that altered
+
 use examples::report::outcome;
 
-fn set(s: &mut [u8], at: usize, b: u8) {
+pub fn set(s: &mut [u8], at: usize, b: u8) {
     if at < s.len() {
         s[at] = b;
     }
@@ -52,30 +54,11 @@ fn refused_mends(p: &mut [u8], other: &mut [u8]) {
     mend(b"mend 511 bytes: ", other, 511);
 }
 
-// A scribbled parity page rebuilt; the parity row begins at 5,632.
-fn repairs(p: &mut [u8]) {
-    let lost = [4u16, 0];
-    pool::format(p, 2, 2, 1, 1);
-    set(p, 5632, 77);
-    outcome(b"repair with mask 4: ", pool::repair(p, &lost));
-    examples::report::check(b"check of that pool: ", p, 6144);
-}
-
-fn refused_repairs(p: &mut [u8]) {
-    let two = [5u16, 0];
-    outcome(b"repair with mask 5: ", pool::repair(p, &two));
-    let above = [8u16, 0];
-    outcome(b"repair with mask 8: ", pool::repair(p, &above));
-    let short = [4u16];
-    outcome(b"repair with one mask: ", pool::repair(p, &short));
-}
-
 fn main() {
     let mut pool = [0u8; 6144];
     let mut other = [0u8; 6144];
     mends(&mut pool);
     copies(&mut pool);
     refused_mends(&mut pool, &mut other);
-    repairs(&mut other);
-    refused_repairs(&mut other);
+    crate::repairs::cases(&mut pool);
 }

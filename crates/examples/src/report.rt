@@ -1,9 +1,11 @@
-// What the example programs print: a name, then a check, a number, a body, an entry, scrub's counts, or the outcome of a call.
+// What the example programs print: a name, then a check, a number, a body, an entry, scrub's counts, what repair altered, or the outcome of a
+// call.
 use answers::Answer;
 use io::print_decimal;
 use io::print_hex;
 use libc::STDOUT_FILENO;
 use pool::Outcome;
+use pool::Repaired;
 use pool::Scrubbed;
 
 // The check of the first `n` bytes of `s`.
@@ -35,6 +37,15 @@ pub fn outcome(name: &[u8], o: Outcome) {
             print_decimal(STDOUT_FILENO, n as u64);
             io::write_all(STDOUT_FILENO, b"\n");
         }
+    }
+}
+
+// How many bytes repair altered, or the refusal.
+pub fn repaired(name: &[u8], r: Repaired) {
+    io::write_all(STDOUT_FILENO, name);
+    match r {
+        Repaired::Altered(n) => numbered(b"altered ", n),
+        Repaired::Refused(n) => numbered(b"refused ", n as usize),
     }
 }
 

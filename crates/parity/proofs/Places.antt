@@ -13,7 +13,7 @@ use Rattle.rules.specs.Words.{word}
 use Rattle.rules.specs.Shape.{InZones, Shape, byteAt, off, poolSize, row, rowAt, rowSize, zone, zonesAt}
 use Rattle.rules.specs.Parity.{columnByte, parityWord, xorTo}
 use Rattle.rules.specs.Scrub.{columnRight, countTo, sumTo}
-use Rattle.rules.proofs.Shape.{Good, cell-high, cell-self, fits, off-cell, off-lt, row-in, zone-cell}
+use Rattle.rules.proofs.Shape.{Good, cell-high, cell-self, fits, off-lt, row-in}
 use Rattle.rules.proofs.Xor.{xorTo-cong}
 use Rattle.columns.specs.Column.{RowsFit, Word, rowByte, rowWord, rowsZero}
 use Rattle.rules.proofs.Scrub.{all-cong}
@@ -53,10 +53,6 @@ module _ (sh : Shape) (g : Good sh) (z c : ℕ) (hz : z < sh .zones) (hc : c < s
 -- ---- the column of a place
 
 module _ (sh : Shape) (g : Good sh) where
-  pub column-cell : (z r c o : ℕ) → r ≤ sh .rows → c < sh .cols → o < sh .page → zone sh (byteAt sh z r (c * sh .page + o)) * sh .cols + off sh (byteAt sh z r (c * sh .page + o)) / sh .page ≡ z * sh .cols + c
-  column-cell z r c o hr hc ho =
-      rw (zone-cell sh g z r (c * sh .page + o) hr (digits-lt hc ho), off-cell sh g z r (c * sh .page + o) (digits-lt hc ho), digits-div c ho)
-
   -- a place is the one that its column, row and offset tell
   pub column-place : (i k r : ℕ) → zonesAt sh ≤ i → zone sh i * sh .cols + off sh i / sh .page ≡ k → row sh i ≡ r
       → i ≡ byteAt sh (k / sh .cols) 0 (k % sh .cols * sh .page) + r * rowSize sh + off sh i % sh .page

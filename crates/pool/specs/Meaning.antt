@@ -3,13 +3,16 @@ use Prim.Native.Nat.{ℕ}
 use mathlib.Core.List.{List}
 use Rattle.rules.specs.Answer.{Answer, Changed, refused, taken}
 use Rattle.rules.specs.Look as Looking
+use Rattle.rules.specs.Repair as Repairing
 use Rattle.rules.specs.Scrub as Scrubbing
 use Rattle.pool.specs.declared.Outcome.{Outcome}
 use Rattle.pool.specs.declared.Outcome.the-variants.{Refused, Taken}
+use Rattle.pool.specs.declared.Repaired.{Repaired}
+use Rattle.pool.specs.declared.Repaired.the-variants as Rebuilt
 use Rattle.pool.specs.declared.Scrubbed.{Scrubbed}
 use Rattle.pool.specs.declared.Scrubbed.the-variants as Scanned
 
--- A call on the pool alone: carried out, or refused with 01's number.
+-- Format and header mending: carried out, or refused with 01's number.
 abbrev pub answerOf : Outcome → Answer
 answerOf Taken = taken
 answerOf (Refused n) = refused n
@@ -17,6 +20,14 @@ answerOf (Refused n) = refused n
 -- Its answer, and the pool that it leaves.
 abbrev pub changed : Outcome → List ℕ → Changed
 changed r pool = record { answer = answerOf r; pool = pool }
+
+-- What repair altered, or its refusal; and the pool that it leaves.
+abbrev pub repairOf : Repaired → Repairing.Repair
+repairOf (Rebuilt.Altered n) = Repairing.altered n
+repairOf (Rebuilt.Refused n) = Repairing.refused n
+
+abbrev pub repairedOf : Repaired → List ℕ → Repairing.Repaired
+repairedOf r pool = record { answer = repairOf r; pool = pool }
 
 -- The refusal of look; 0 if it is not refused.
 unfoldable pub refusalOf : Looking.Look → ℕ

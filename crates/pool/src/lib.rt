@@ -12,15 +12,21 @@ ghost use Rattle.rules.specs.Scrub.{scrub as scrubbed};
 ghost use Rattle.layout.specs.Meaning.{InRange, Shaped, shapeOf};
 ghost use Rattle.zones.specs.Body.{lookOf, Within};
 ghost use Rattle.pool.specs.Fill.{headsFrom};
-ghost use Rattle.pool.specs.Meaning.{changed, refusalOf, scrubOf};
+ghost use Rattle.pool.specs.Meaning.{changed, refusalOf, repairedOf, scrubOf};
 use layout::Made;
 use layout::Opened;
 use layout::Shape;
 use zones::Body;
 
-// What a call on the pool alone answers.
+// What format and header mending answer.
 pub enum Outcome {
     Taken,
+    Refused(u8),
+}
+
+// What repair answers: how many bytes it altered; or a refusal's number.
+pub enum Repaired {
+    Altered(usize),
     Refused(u8),
 }
 
@@ -106,24 +112,25 @@ fn copy_header(pool: &mut [u8], s: Shape)
     pages::copy(pool, page, 0, page);
 }
 
-// Rebuilds the lost pages: `lost` has one mask a column, zone by zone; bit r means row r, bit R the parity row.
-pub fn repair(pool: &mut [u8], lost: &[u16]) -> Outcome
-    ensures { λ r. ⌜ changed r (now (pool .exit)) ≡ repairCall (now (pool .entry)) (now (lost .entry)) ⌝ }
+// Rebuilds the lost pages: `lost` has one mask a column, zone by zone; bit r means row r, bit R the parity row. Answers how many bytes that
+// altered.
+pub fn repair(pool: &mut [u8], lost: &[u16]) -> Repaired
+    ensures { λ r. ⌜ repairedOf r (now (pool .exit)) ≡ repairCall (now (pool .entry)) (now (lost .entry)) ⌝ }
 {
     match log::quiet(pool) {
-        Opened::Refused(n) => Outcome::Refused(n),
+        Opened::Refused(n) => Repaired::Refused(n),
         Opened::Good(s) => {
             if lost.len() != s.zones * s.cols {
-                return Outcome::Refused(8);
+                return Repaired::Refused(8);
             }
             if repair::any_above(s, lost) {
-                return Outcome::Refused(8);
+                return Repaired::Refused(8);
             }
             if repair::any_two(lost) {
-                return Outcome::Refused(28);
+                return Repaired::Refused(28);
             }
-            repair::repair_pages(s, pool, lost);
-            Outcome::Taken
+            let altered = repair::repair_pages(s, pool, lost);
+            Repaired::Altered(altered)
         }
     }
 }

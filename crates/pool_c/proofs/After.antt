@@ -5,12 +5,14 @@ use mathlib.Core.List.{List}
 use Rattle.rules.specs.Staging as Staging
 use Rattle.rules.specs.Answer.{After, Changed, Given}
 use Rattle.rules.specs.Plan.{Call}
+use Rattle.rules.specs.Repair as Repairing
 use Rattle.rules.specs.Calls.{TransactionStart, call, transactionStart}
 use Rattle.powercut.specs.Recovery as Paper
 use Rattle.powercut.specs.Recovery.{RecoveryAfter}
 use Rattle.answers.specs.Meaning.{answerOf, valueOf}
 use Rattle.record.specs.Meaning.{phaseOf}
 use Rattle.pool.specs.declared.Outcome.{Outcome}
+use Rattle.pool.specs.declared.Repaired.{Repaired}
 use Rattle.pool.specs.Meaning as Pool
 use Rattle.transaction.specs.declared.Transaction as Public
 use Rattle.transaction.specs.declared.Reply as PublicReply
@@ -23,7 +25,7 @@ use Rattle.pool_c.specs.declared.transactions.Transaction.{Transaction}
 use Rattle.pool_c.specs.declared.transactions.Reply.{Reply}
 use Rattle.pool_c.specs.declared.recoveries.Recovery as C
 use Rattle.pool_c.specs.declared.recoveries.RecoveryReply.{RecoveryReply}
-use Rattle.pool_c.specs.Meaning.{Fits64, afterOut, changedOut, givenIn, phaseIn, phaseOut, recoveryAfterOut, recoveryIn, recoveryReplyOut, replyOut, startOut, transactionIn}
+use Rattle.pool_c.specs.Meaning.{Fits64, afterOut, changedOut, givenIn, phaseIn, phaseOut, recoveryAfterOut, recoveryIn, recoveryReplyOut, repairOut, repairedOut, replyOut, startOut, transactionIn}
 use Rattle.pool_c.proofs.Reading.{phase-out-in, progress-out-in, work-out-in}
 use Rattle.pool_c.proofs.Fits.{Fits, Keeps, KeepsFits, begin-fits, call-fits}
 
@@ -31,6 +33,10 @@ use Rattle.pool_c.proofs.Fits.{Fits, Keeps, KeepsFits, begin-fits, call
 
 pub changed-out : (x : Outcome) {r : ℕ} (q : List ℕ) {y : Changed} → r ≡ valueOf (Pool.answerOf x) → Pool.changed x q ≡ y → (r, q) ≡ changedOut y
 changed-out x q e h = ap (λ (n : ℕ). (n, q)) e ∙ ap changedOut h
+
+-- repair's answer x, told as the case y
+pub repaired-out : {x y : Repaired} (q : List ℕ) {z : Repairing.Repaired} → x ≡ y → Pool.repairedOf x q ≡ z → (repairOut (Pool.repairOf y), q) ≡ repairedOut z
+repaired-out q e h = ap (λ (x : Repaired). repairedOut (Pool.repairedOf x q)) (sym e) ∙ ap repairedOut h
 
 -- ---- a transaction begun: x is what the public call hands back
 

@@ -7,12 +7,14 @@ use Rattle.rules.specs.Staging.{Phase, closed, committing, live}
 use Rattle.rules.specs.Answer.{After, Answer, Changed, Given}
 use Rattle.rules.specs.Calls.{TransactionStart}
 use Rattle.rules.specs.Look as Looking
+use Rattle.rules.specs.Repair as Repairing
 use Rattle.rules.specs.Scrub as Scrubbing
 use Rattle.powercut.specs.Log.{Log, fromA, fromB}
 use Rattle.powercut.specs.Steps.{Remedy, clear, neither, nothing, replay}
 use Rattle.powercut.specs.Recovery as Recovering
 use Rattle.powercut.specs.Recovery.{Progress, RecoveryAfter, finished, recovering}
 use Rattle.answers.specs.Meaning.{kindOf, valueOf}
+use Rattle.pool_c.specs.declared.pools.Repaired.{Repaired}
 use Rattle.pool_c.specs.declared.pools.Part.{Part}
 use Rattle.pool_c.specs.declared.pools.Counts.{Counts}
 use Rattle.pool_c.specs.declared.transactions.Transaction.{Transaction}
@@ -29,6 +31,14 @@ Fits64 n = n < 2 ^ 64
 -- 0 where it is carried out, else the refusal's number; and the pool's bytes.
 abbrev pub changedOut : Changed → ℕ × List ℕ
 changedOut x = (valueOf (x .answer), x .pool)
+
+-- What repair altered, or its refusal; and the pool's bytes.
+abbrev pub repairOut : Repairing.Repair → Repaired
+repairOut (Repairing.altered n) = record { refusal = 0; altered = n }
+repairOut (Repairing.refused n) = record { refusal = n; altered = 0 }
+
+abbrev pub repairedOut : Repairing.Repaired → Repaired × List ℕ
+repairedOut x = (repairOut (x .answer), x .pool)
 
 abbrev pub partOut : Looking.Look → Part
 partOut (Looking.part at n) = record { refusal = 0; offset = at; length = n }

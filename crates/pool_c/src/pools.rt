@@ -8,10 +8,17 @@ ghost use Rattle.rules.specs.Repair.{repair as repairCall};
 ghost use Rattle.rules.specs.Scrub.{scrub as scrubbed};
 ghost use Rattle.answers.specs.Meaning.{valueOf};
 ghost use Rattle.pool.specs.Meaning.{answerOf};
-ghost use Rattle.pool_c.specs.Meaning.{changedOut, countsOut, partOut};
+ghost use Rattle.pool_c.specs.Meaning.{changedOut, countsOut, partOut, repairedOut};
 use pool::Outcome;
 use pool::Scrubbed;
 use zones::Body;
+
+// How many bytes repair altered; or the refusal, and 0.
+#[repr(C)]
+pub struct Repaired {
+    pub refusal: usize,
+    pub altered: usize,
+}
 
 // The part of the pool that holds a body; or the refusal, and zeros.
 #[repr(C)]
@@ -65,10 +72,19 @@ pub extern "C" fn pool_mend(pool: &mut [u8]) -> usize
 
 // Rebuilds the lost pages.
 #[no_mangle]
-pub extern "C" fn pool_repair(pool: &mut [u8], lost: &[u16]) -> usize
-    ensures { λ r. ⌜ (r, now (pool .exit)) ≡ changedOut (repairCall (now (pool .entry)) (now (lost .entry))) ⌝ }
+pub extern "C" fn pool_repair(pool: &mut [u8], lost: &[u16]) -> Repaired
+    ensures { λ r. ⌜ (r, now (pool .exit)) ≡ repairedOut (repairCall (now (pool .entry)) (now (lost .entry))) ⌝ }
 {
-    refusal(pool::repair(pool, lost))
+    match pool::repair(pool, lost) {
+        pool::Repaired::Refused(n) => Repaired {
+            refusal: n as usize,
+            altered: 0,
+        },
+        pool::Repaired::Altered(altered) => Repaired {
+            refusal: 0,
+            altered,
+        },
+    }
 }
 
 // Where the body of the object at this address lies.

@@ -9,7 +9,6 @@ use Rattle.rules.specs.Test.{first}
 use Rattle.rules.specs.Header.{openTests, shapeIn}
 use Rattle.rules.specs.Answer.{concludePool, isRefused}
 use Rattle.rules.specs.Plan.{allocate, release, write}
-use Rattle.rules.specs.Repair.{repair}
 use Rattle.rules.specs.Mend.{mendHeader, mended}
 use Rattle.rules.specs.Scrub.{brokenZones, concludeScrub, counts, damagedMet, objectsMet, scrub, wrongColumns}
 use Rattle.rules.specs.Format.{formatted}
@@ -19,7 +18,7 @@ use Rattle.rules.specs.Zones.{goodFrom}
 use Rattle.rules.proofs.Test.{first-passed, passed-left}
 use Rattle.rules.proofs.Check.{check-sums, check-updated}
 use Rattle.rules.proofs.Header.{passed-good}
-use Rattle.rules.proofs.Refusals.{pool-kept}
+use Rattle.rules.proofs.Refusals.{pool-kept, repair-kept}
 use Rattle.rules.proofs.Transaction.{call-refused}
 use Rattle.rules.proofs.StagedBook.{held-end}
 use Rattle.rules.proofs.Sound.{look-listed, look-unlisted, repair-restores, sound-fits}
@@ -42,10 +41,6 @@ format-kept p R C Z id = pool-kept p _ _
 mend-kept : (p : List ℕ) → KeepsPool p (mendHeader p)
 unfolding mendHeader
 mend-kept p = pool-kept p _ _
-
-repair-kept : (p ms : List ℕ) → KeepsPool p (repair p ms)
-unfolding repair
-repair-kept p ms = pool-kept p _ _
 
 -- REQUIREMENT 1
 pub requirement-1 : Requirement1

@@ -13,12 +13,12 @@ use Rattle.rules.specs.Staging.{Store, Transaction, closed, commitLength, commi
 use Rattle.rules.specs.Plan.{Call}
 use Rattle.rules.specs.Calls.{AllTyped, transactionStart}
 use Rattle.rules.specs.NewBook.{newBooks}
-use Rattle.rules.specs.Answer.{Answer, Given, taken}
+use Rattle.rules.specs.Answer.{Answer, Given}
 use Rattle.rules.specs.Seals.{unsealed}
 use Rattle.rules.specs.Parity.{Parity}
 use Rattle.rules.specs.Sound.{Sound, bookOf}
 use Rattle.rules.specs.Look.{look, part, seen}
-use Rattle.rules.specs.Repair.{Loss, repair}
+use Rattle.rules.specs.Repair.{Loss, altered, differences, repair}
 use Rattle.powercut.specs.Steps.{Step, commitSteps, stepsMade}
 use Rattle.powercut.specs.Power.{State, act, view}
 use Rattle.powercut.specs.Commit.{commitList, commitNext, commitStart, commitStep}
@@ -72,7 +72,7 @@ module _ (pool staging : List ℕ) (ks : List Call) where
     pub behind : s .pend ≡ []
     pub sound : Sound (view s)
     pub books : bookOf (view s) ≡ oldOrNew isNew
-    pub repairs : (q ms : List ℕ) → Loss (view s) q ms → repair q ms ≡ record { answer = taken; pool = view s }
+    pub repairs : (q ms : List ℕ) → Loss (view s) q ms → repair q ms ≡ record { answer = altered (differences q (view s)); pool = view s }
     pub size : length (view s) ≡ length pool
     pub headers : (i : ℕ) → i < logA sh → getD (view s) i 0 ≡ getD pool i 0
     pub data-rows : SameData sh (view s) (stagedOrOld isNew pool es)

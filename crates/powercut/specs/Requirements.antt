@@ -12,13 +12,13 @@ use Rattle.rules.specs.Header.{pageAt, shapeIn, validHeader}
 use Rattle.rules.specs.Book.{Listed, find}
 use Rattle.rules.specs.Zones.{goodFrom, headAt, poolBook}
 use Rattle.rules.specs.Staging.{lay}
-use Rattle.rules.specs.Answer.{After, Changed, Given, isRefused, taken}
+use Rattle.rules.specs.Answer.{After, Changed, Given, isRefused}
 use Rattle.rules.specs.Plan.{Call, allocate, release, write}
 use Rattle.rules.specs.Calls.{AllTyped, call}
 use Rattle.rules.specs.Parity.{Parity}
 use Rattle.rules.specs.Sound.{Sound, bookOf}
 use Rattle.rules.specs.Look.{look, part, seen}
-use Rattle.rules.specs.Repair.{Loss, repair}
+use Rattle.rules.specs.Repair.{Loss, altered, differences, refused, repair}
 use Rattle.rules.specs.Mend.{mendHeader}
 use Rattle.rules.specs.Scrub.{counts, scrub}
 use Rattle.rules.specs.Format.{formatted}
@@ -44,7 +44,7 @@ KeepsRecovery p r x = isRefused (x .answer) ≡ true → (x .pool ≡ p) × (x .
 pub record Requirement1 : Type 0 where
   pub formats : (p : List ℕ) (R C Z id : ℕ) → KeepsPool p (formatted p R C Z id)
   pub mends : (p : List ℕ) → KeepsPool p (mendHeader p)
-  pub repairs : (p masks : List ℕ) → KeepsPool p (repair p masks)
+  pub repairs : (p masks : List ℕ) (n : ℕ) → repair p masks .answer ≡ refused n → repair p masks .pool ≡ p
   pub allocates : (g : Given) (tag : ℕ) (body : List ℕ) → KeepsGiven g (call g (allocate tag body))
   pub writes : (g : Given) (a at : ℕ) (bytes : List ℕ) → KeepsGiven g (call g (write a at bytes))
   pub frees : (g : Given) (a : ℕ) → KeepsGiven g (call g (release a))
@@ -76,8 +76,9 @@ pub record Requirement2 : Type 0 where
   pub staged : (pool staging : List ℕ) (ks : List Call) → Sound pool → AllTyped ks
       → (goodFrom (shapeIn pool) (lay pool (entries pool staging ks)) 0 (shapeIn pool .zones) ≡ true)
       × (poolBook (shapeIn pool) (lay pool (entries pool staging ks)) ≡ new pool staging ks)
-  -- Repair restores every byte after any loss of at most one page a column, whatever the lost pages hold; so also a cut repair, repeated.
-  pub repairs : (p q masks : List ℕ) → Sound p → Loss p q masks → repair q masks ≡ record { answer = taken; pool = p }
+  -- Repair restores every byte after any loss of at most one page a column, whatever the lost pages hold; so also a cut repair, repeated. It
+  -- answers how many bytes it altered.
+  pub repairs : (p q masks : List ℕ) → Sound p → Loss p q masks → repair q masks ≡ record { answer = altered (differences q p); pool = p }
   -- A format that is not refused leaves a sound pool with an empty book.
   pub formats : (p : List ℕ) (R C Z id : ℕ) → id < 2 ^ 64 → isRefused (formatted p R C Z id .answer) ≡ false
       → Sound (formatted p R C Z id .pool) × (bookOf (formatted p R C Z id .pool) ≡ [])

@@ -1,6 +1,6 @@
 -- Repair column by column: with the first k masks of the list the first k columns are rebuilt. Assumes nothing.
 use Prim.Native.Nat.{ℕ, suc, _+_, _-_, _*_, _/_, _%_, _^_, _≤_, _<_}
-use mathlib.Core.Path.{_≡_, sym, ap, _∙_}
+use mathlib.Core.Path.{_≡_, sym, ap, ap₂, _∙_}
 use mathlib.Core.Logic.{_≢_, _⊎_, inl, inr}
 use mathlib.Core.Bool.{Bool, false, cond}
 use mathlib.Core.List.{List}
@@ -12,19 +12,21 @@ use borrow.Author.Tests.{eq-eqb, le-leb, leb-true, ne-eqb}
 use lib.Arith.{digits-lt}
 use lib.Count.{ones, trailingZeros}
 use lib.Dec.{eqb, leb}
-use lib.ListN.{length, take, getD, length-take, List·getD-eq-default}
-use lib.Seq.{sets, length-sets, ext-getD, getD-take}
+use lib.ListN.{length, take, drop, getD, length-take, List·getD-eq-default}
+use lib.Seq.{sets, length-sets, ext-getD, getD-take, take-length}
 use Rattle.rules.specs.Shape.{Shape, byteAt, off, poolSize, row, rowAt, rowSize, zone, zonesAt}
 use Rattle.rules.specs.Parity.{skip, xorTo}
-use Rattle.rules.specs.Repair.{anyAbove, anyTwo, bit, lost, maskAt, rebuilt, repaired, tabFrom}
+use Rattle.rules.specs.Repair.{anyAbove, anyTwo, bit, differences, lost, maskAt, rebuilt, repaired, tabFrom}
 use Rattle.rules.proofs.Bool.{split}
 use Rattle.rules.proofs.Words.{sets-after, sets-before, sets-in}
 use Rattle.rules.proofs.Xor.{xorTo-cong}
-use Rattle.rules.proofs.Shape.{Good, cell-high, cell-low, off-cell, row-cell, zone-cell}
+use Rattle.rules.proofs.Shape.{Good, cell-high, cell-low, column-cell, off-cell, row-cell, zone-cell}
+use Rattle.rules.proofs.Parts.{part-ext}
+use Rattle.rules.proofs.Differences.{differences-most, differences-same, differences-sets, differences-stored}
 use Rattle.rules.proofs.Sound.{single-bits}
-use Rattle.rules.proofs.Repair.{bit-unique, tab-at, tab-length}
+use Rattle.rules.proofs.Repair.{bit-unique, repaired-at, repaired-length, tab-at, tab-length}
 use Rattle.columns.specs.Column.{otherByte, rowByte}
-use Rattle.parity.proofs.Places.{byte-off, column-cell, column-place}
+use Rattle.parity.proofs.Places.{byte-off, column-place}
 use Rattle.repair.specs.Column.{columnAt, columnRebuilt}
 use Rattle.repair.proofs.Masks.{above-bits, lost-row, one-bit}
 
@@ -45,28 +47,20 @@ bit-zero : (m r : ℕ) → m ≡ 0 → eqb (bit m r) 1 ≡ false
 bit-zero m r e = rw (e, zero-div (2 ^ r))
 
 module _ (sh : Shape) (p : List ℕ) where
-  repaired-length : (ms : List ℕ) → length (repaired sh ms p) ≡ length p
-  unfolding repaired
-  repaired-length ms = tab-length 0 (length p) (rebuilt sh ms p)
-
-  repaired-at : (ms : List ℕ) (i : ℕ) → i < length p → getD (repaired sh ms p) i 0 ≡ rebuilt sh ms p i
-  unfolding repaired
-  repaired-at ms i h = tab-at 0 (length p) (rebuilt sh ms p) i h ∙ ap (rebuilt sh ms p) (zero-add i)
-
   -- a byte whose column has no lost page stays
   repaired-kept : (ms : List ℕ) (i : ℕ) → i < length p → maskAt sh ms i ≡ 0 → getD (repaired sh ms p) i 0 ≡ getD p i 0
-  repaired-kept ms i h e = repaired-at ms i h ∙ rw (bit-zero (maskAt sh ms i) (row sh i) e) (split (leb (zonesAt sh) i) (λ q. rw q) (λ q. rw q))
+  repaired-kept ms i h e = repaired-at sh p ms i h ∙ rw (bit-zero (maskAt sh ms i) (row sh i) e) (split (leb (zonesAt sh) i) (λ q. rw q) (λ q. rw q))
 
   -- a list tells only by its masks
   repaired-same : (ms ns : List ℕ) → ((j : ℕ) → getD ms j 0 ≡ getD ns j 0) → repaired sh ms p ≡ repaired sh ns p
   repaired-same ms ns h =
-      ext-getD 0 _ _ (repaired-length ms ∙ sym (repaired-length ns)) (λ i l.
-      let k : i < length p = rw (repaired-length ms) at l in
-      repaired-at ms i k ∙ rw (h (zone sh i * sh .cols + off sh i / sh .page)) (sym (repaired-at ns i k)))
+      ext-getD 0 _ _ (repaired-length sh p ms ∙ sym (repaired-length sh p ns)) (λ i l.
+      let k : i < length p = rw (repaired-length sh p ms) at l in
+      repaired-at sh p ms i k ∙ rw (h (zone sh i * sh .cols + off sh i / sh .page)) (sym (repaired-at sh p ns i k)))
 
   pub repaired-none : (ms : List ℕ) → repaired sh (take 0 ms) p ≡ p
   repaired-none ms =
-      ext-getD 0 _ _ (repaired-length (take 0 ms)) (λ i l. repaired-kept (take 0 ms) i (rw (repaired-length (take 0 ms)) at l) (past 0 ms (zone sh i * sh .cols + off sh i / sh .page) (omega arith)))
+      ext-getD 0 _ _ (repaired-length sh p (take 0 ms)) (λ i l. repaired-kept (take 0 ms) i (rw (repaired-length sh p (take 0 ms)) at l) (past 0 ms (zone sh i * sh .cols + off sh i / sh .page) (omega arith)))
 
   -- a mask of no bits
   pub repaired-zero : (ms : List ℕ) (k : ℕ) → getD ms k 0 ≡ 0 → repaired sh (take (k + 1) ms) p ≡ repaired sh (take k ms) p
@@ -98,7 +92,13 @@ module _ (sh : Shape) (g : Good sh) (p ms : List ℕ) (size : length p ≡ poolS
   unfolding rowAt
   in-row o r′ l = rw (zone-cell sh g (k / sh .cols) r (k % sh .cols * sh .page + o) hr (digits-lt col-lt l), off-cell sh g (k / sh .cols) r (k % sh .cols * sh .page + o) (digits-lt col-lt l))
 
-  -- a byte of the lost page becomes the exclusive or of the others, none of which has changed so far
+  -- no byte of the column has changed so far
+  kept : (r o : ℕ) → r ≤ sh .rows → o < sh .page → getD (repaired sh (take k ms) p) (cell r o) 0 ≡ getD p (cell r o) 0
+  kept r o h l =
+      repaired-kept sh p (take k ms) (cell r o) (rw size (cell-high sh g (k / sh .cols) r (k % sh .cols * sh .page + o) hz h (digits-lt col-lt l)))
+      (ap (λ (x : ℕ). getD (take k ms) x 0) (in-column r o h l) ∙ past k ms k (omega arith))
+
+  -- a byte of the lost page becomes the exclusive or of the others
   rebuilt-in : (o : ℕ) → o < sh .page
       → rebuilt sh (take (suc k) ms) p (cell r o) ≡ otherByte (repaired sh (take k ms) p) at (rowSize sh) (sh .rows + 1) r o
   unfolding otherByte
@@ -112,9 +112,7 @@ module _ (sh : Shape) (g : Good sh) (p ms : List ℕ) (size : length p ≡ poolS
     where
       same : (r′ : ℕ) → r′ < suc (sh .rows) → getD p (rowAt sh (cell r o) r′) 0 ≡ rowByte (repaired sh (take k ms) p) at (rowSize sh) o r′
       same r′ h =
-          let b : cell r′ o < length p = rw size (cell-high sh g (k / sh .cols) r′ (k % sh .cols * sh .page + o) hz (omega arith) (digits-lt col-lt l)) in
-          ap (λ (x : ℕ). getD p x 0) (in-row o r′ l)
-          ∙ sym (repaired-kept sh p (take k ms) (cell r′ o) b (ap (λ (x : ℕ). getD (take k ms) x 0) (in-column r′ o (omega arith) l) ∙ past k ms k (omega arith)))
+          ap (λ (x : ℕ). getD p x 0) (in-row o r′ l) ∙ sym (kept r′ o (omega arith) l)
           ∙ ap (λ (x : ℕ). getD (repaired sh (take k ms) p) x 0) (byte-off sh (k / sh .cols) r′ (k % sh .cols * sh .page) o)
 
   -- any other byte is lost now if it was before
@@ -175,7 +173,33 @@ module _ (sh : Shape) (g : Good sh) (p ms : List ℕ) (size : length p ≡ poolS
       (λ i l. let h : i < length p = rw (repaired-length sh p (take (suc k) ms)) at l in
       repaired-at sh p (take (suc k) ms) i h ∙ repaired-byte i h (decLt i (at + r * rowSize sh)) (decLe (at + r * rowSize sh + sh .page) i)))
 
+  -- the page to be rebuilt is as it was, so that what its rebuilding alters comes on top of what was altered so far
+  page-kept : take (sh .page) (drop (at + r * rowSize sh) p) ≡ take (sh .page) (drop (at + r * rowSize sh) (repaired sh (take k ms) p))
+  page-kept =
+      part-ext p (repaired sh (take k ms) p) (at + r * rowSize sh) (sh .page) (sym (repaired-length sh p (take k ms)))
+      (λ o l. rw (← (byte-off sh (k / sh .cols) r (k % sh .cols * sh .page) o)) (sym (kept r o hr l)))
+
+  pub altered-one : let q = repaired sh (take k ms) p in
+      differences p (columnRebuilt sh q k r) ≡ differences p q + differences q (columnRebuilt sh q k r)
+  unfolding columnRebuilt
+  altered-one =
+      let q : List ℕ = repaired sh (take k ms) p in
+      let n = tab-length 0 (sh .page) (otherByte q at (rowSize sh) (sh .rows + 1) r) in
+      let b = page-inside in
+      let l = repaired-length sh p (take k ms) in
+      differences-sets p q (at + r * rowSize sh) (sh .page) b l page-kept new-page n
+      ∙ ap (λ (x : ℕ). differences p q + x) (ap (λ (x : List ℕ). differences x new-page) (page-kept ∙ ap (λ (x : ℕ). take x (drop (at + r * rowSize sh) q)) (sym n))
+      ∙ sym (differences-stored q new-page (at + r * rowSize sh) (omega arith)))
+
 -- ---- column k of a loss list
+
+-- the first k columns are repaired, which altered n bytes
+pub record Repairing (sh : Shape) (p ms : List ℕ) (k : ℕ) (q : List ℕ) (n : ℕ) : Type 0 where
+  pub pool-is : q ≡ repaired sh (take k ms) p
+  pub count : n ≡ differences p q
+
+pub repairing-none : (sh : Shape) (p ms : List ℕ) → Repairing sh p ms 0 p 0
+repairing-none sh p ms = record { pool-is = sym (repaired-none sh p ms); count = sym (differences-same p) }
 
 pub column-range : (k zones cols : ℕ) → 0 < cols → k < zones * cols → (k / cols < zones) × (k % cols < cols)
 column-range k zones cols h l = (div-lt-iff-lt-mul h .1 l, mod-lt k h)
@@ -185,18 +209,51 @@ pub column-rebuilt : (sh : Shape) (p q : List ℕ) (k at n r : ℕ) → at ≡ c
 unfolding columnRebuilt
 column-rebuilt sh p q k at n r e f h = h ∙ rw (e, f)
 
-module _ (sh : Shape) (g : Good sh) (p ms : List ℕ) (size : length p ≡ poolSize sh) (rows : sh .rows ≤ 15)
-    (masks : length ms ≡ sh .zones * sh .cols) (above : anyAbove sh ms ≡ false) (two : anyTwo ms ≡ false) (k : ℕ) (h : k < length ms) where
+module _ {sh : Shape} {p ms : List ℕ} {k : ℕ} {q : List ℕ} {n : ℕ} (c : Repairing sh p ms k q n) where
+  pub repairing-size : length q ≡ length p
+  repairing-size = ap length (c .pool-is) ∙ repaired-length sh p (take k ms)
+
+  -- no more bytes are altered than there are
+  pub repairing-few : n ≤ length p
+  repairing-few = let h = differences-most p q in let e = c .count in omega arith
+
+  -- all columns are repaired
+  pub repairing-all : length ms ≡ k → q ≡ repaired sh ms p
+  repairing-all e = c .pool-is ∙ ap (λ (x : List ℕ). repaired sh x p) (ap (λ (x : ℕ). take x ms) (sym e) ∙ take-length ms)
+
+-- a pool of this shape, and a mask for each of its columns, at most one bit set and none above bit R
+pub record Rebuildable (sh : Shape) (p ms : List ℕ) : Type 0 where
+  pub good : Good sh
+  pub size : length p ≡ poolSize sh
+  pub rows : sh .rows ≤ 15
+  pub masks : length ms ≡ sh .zones * sh .cols
+  pub above : anyAbove sh ms ≡ false
+  pub two : anyTwo ms ≡ false
+
+module _ {sh : Shape} {p ms : List ℕ} (g : Rebuildable sh p ms) (k : ℕ) where
   pub mask-small : getD ms k 0 < 2 ^ suc (sh .rows)
-  mask-small = above-bits sh ms above k
+  mask-small = above-bits sh ms (g .above) k
 
   pub mask-one : (getD ms k 0 ≡ 0 → ⊥) → ones (getD ms k 0) ≡ 1
-  mask-one n = one-bit (getD ms k 0) (single-bits ms two k) n
+  mask-one n = one-bit (getD ms k 0) (single-bits ms (g .two) k) n
 
-  pub repaired-lost : (q q′ : List ℕ) → (getD ms k 0 ≡ 0 → ⊥) → q ≡ repaired sh (take k ms) p
-      → q′ ≡ columnRebuilt sh q k (trailingZeros 16 (getD ms k 0)) → q′ ≡ repaired sh (take (k + 1) ms) p
-  repaired-lost q q′ n e f =
-      let m : ℕ = getD ms k 0 in
-      let l = lost-row (suc (sh .rows)) m (omega arith) mask-small (mask-one n) in
-      f ∙ ap (λ (x : List ℕ). columnRebuilt sh x k (trailingZeros 16 m)) e
-      ∙ sym (repaired-one sh g p ms size k (trailingZeros 16 m) (column-range k (sh .zones) (sh .cols) (g .cols-pos) (rw masks at h) .0) (single-bits ms two k) (l .0) (omega arith))
+  module _ {q q′ : List ℕ} {n n′ : ℕ} (c : Repairing sh p ms k q n) where
+    -- no page of the column is lost
+    pub repairing-zero : getD ms k 0 ≡ 0 → q′ ≡ q → n′ ≡ n → Repairing sh p ms (k + 1) q′ n′
+    repairing-zero z e d =
+        record { pool-is = e ∙ c .pool-is ∙ sym (repaired-zero sh p ms k z); count = d ∙ c .count ∙ ap (differences p) (sym e) }
+
+    -- one is
+    pub repairing-lost : k < length ms → (getD ms k 0 ≡ 0 → ⊥) → q′ ≡ columnRebuilt sh q k (trailingZeros 16 (getD ms k 0)) → n′ ≡ n + differences q q′
+        → Repairing sh p ms (k + 1) q′ n′
+    repairing-lost h z e d =
+        let t : ℕ = trailingZeros 16 (getD ms k 0) in
+        let l = lost-row (suc (sh .rows)) (getD ms k 0) (let r = g .rows in omega arith) mask-small (mask-one z) in
+        let hz = column-range k (sh .zones) (sh .cols) (g .good .cols-pos) (rw (g .masks) at h) .0 in
+        let b = single-bits ms (g .two) k in
+        let e′ : q′ ≡ columnRebuilt sh (repaired sh (take k ms) p) k t = e ∙ ap (λ (x : List ℕ). columnRebuilt sh x k t) (c .pool-is) in
+        record {
+          pool-is = e′ ∙ sym (repaired-one sh (g .good) p ms (g .size) k t hz b (l .0) (omega arith));
+          count = d ∙ ap₂ _+_ (c .count ∙ ap (differences p) (c .pool-is)) (ap₂ differences (c .pool-is) e′)
+              ∙ sym (altered-one sh (g .good) p ms (g .size) k t hz b (l .0) (omega arith)) ∙ ap (differences p) (sym e′);
+        }

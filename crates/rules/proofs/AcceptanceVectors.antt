@@ -27,7 +27,7 @@ use Rattle.rules.specs.Calls.{begun, call, callTests, calls, concludeSta
 use Rattle.rules.specs.NewBook.{newBook, newBooks, onAddress, onTaken}
 use Rattle.rules.specs.Parity.{columnByte, parityWord, xorTo}
 use Rattle.rules.specs.Look.{concludeLook, look, lookTests, part, refused as lookRefused, seen}
-use Rattle.rules.specs.Repair.{anyAbove, anyTwo, repairTests, repaired, tabFrom}
+use Rattle.rules.specs.Repair.{altered, anyAbove, anyTwo, concludeRepair, differences, refused as repairRefused, repair, repairTests, repaired, tabFrom}
 use Rattle.rules.specs.Mend.{mendHeader, mended}
 use Rattle.rules.specs.Scrub.{allTo, brokenZones, columnRight, concludeScrub, countRuns, countTo, damagedMet, objectsMet, refused as scrubRefused, scrub, sumTo, wrongColumns}
 use Rattle.rules.specs.Format.{formatTests, freshPool, freshZone, freshZones}
@@ -35,7 +35,7 @@ use Rattle.rules.specs.Scan.{brokenLine, columnsLine, concludeScan, deci
 
 -- Each definition of the rules that computes, opened at once.
 opened : Unit {0}
-unfolding number digits field word put reduced low high check updated poolSize zoneCells zoneAt byteAt zone row off rowAt first same within inRange headerFront headerBytes pageAt headerShape headerId headerOk validHeader shapeIn idIn differing openTests cellsFor freeOk objectOk allZero goodIn runOf readRun fits checkRun nextRun onward walk zoneWalk headBytes freeHead objectBytes checkWord book enter strike overwrite find fit runAt joined zoneData walkIn runsFrom bookFrom poolBook allGood goodFrom runThere isObject isDamaged bodyOf headAt objectTests unsealed readTests touch touchWords wordFrom wordCount touchRange isLive commitLength pastCommit impossible conclude concludePool fitIn search fitTest fitAddress touchFree touchObject touchWrite joinedAt touchJoined plan entriesIn concludeStart transactionStart recordTests liveTests callTests staged call calls begun onAddress onTaken newBook newBooks xorTo parityWord tabFrom repaired anyAbove anyTwo repairTests mended countRuns countTo allTo sumTo columnRight wrongColumns brokenZones objectsMet damagedMet freshZone freshZones freshPool formatTests decimalTo decimal quality runText runLine brokenLine zoneLines zonesText poolLine columnsLine poolText scanTests concludeScan poolscan lookTests concludeLook look seen mendHeader concludeScrub scrub ones onesIn
+unfolding number digits field word put reduced low high check updated poolSize zoneCells zoneAt byteAt zone row off rowAt first same within inRange headerFront headerBytes pageAt headerShape headerId headerOk validHeader shapeIn idIn differing openTests cellsFor freeOk objectOk allZero goodIn runOf readRun fits checkRun nextRun onward walk zoneWalk headBytes freeHead objectBytes checkWord book enter strike overwrite find fit runAt joined zoneData walkIn runsFrom bookFrom poolBook allGood goodFrom runThere isObject isDamaged bodyOf headAt objectTests unsealed readTests touch touchWords wordFrom wordCount touchRange isLive commitLength pastCommit impossible conclude concludePool fitIn search fitTest fitAddress touchFree touchObject touchWrite joinedAt touchJoined plan entriesIn concludeStart transactionStart recordTests liveTests callTests staged call calls begun onAddress onTaken newBook newBooks xorTo parityWord tabFrom repaired anyAbove anyTwo repairTests differences concludeRepair repair mended countRuns countTo allTo sumTo columnRight wrongColumns brokenZones objectsMet damagedMet freshZone freshZones freshPool formatTests decimalTo decimal quality runText runLine brokenLine zoneLines zonesText poolLine columnsLine poolText scanTests concludeScan poolscan lookTests concludeLook look seen mendHeader concludeScrub scrub ones onesIn
 opened = tt
 
 abbrev shape : ℕ → ℕ → ℕ → ℕ → Shape
@@ -722,6 +722,23 @@ repaired-is = (refl, refl, refl)
 pub repaired-others : repaired (shape 8 2 2 1) (4 ∷ 0 ∷ []) (set (set grid 144 0) 152 0) ≡ set (set (set grid 144 0) 152 0) 176 0xF0
 unfolding opened
 repaired-others = refl
+
+-- Places that differ: none, one, all; the last; none in no bytes. Bytes count, whatever bits differ.
+pub differences-are :
+    (differences grid grid ≡ 0) × (differences grid (set grid 144 0xFF) ≡ 1) × (differences (replicate 256 0) (replicate 256 0xEE) ≡ 256)
+    × (differences (1 ∷ 2 ∷ 3 ∷ []) (1 ∷ 2 ∷ 4 ∷ []) ≡ 1) × (differences [] [] ≡ 0)
+unfolding opened
+differences-are = (refl, refl, refl, refl, refl)
+
+-- What repair answers, with the pool left: a page of 8 bytes all wrong; two pages, of which one has a wrong byte and one is as its column says;
+-- none lost; a refusal's number alone.
+pub repair-answers :
+    (concludeRepair (sets grid 160 (replicate 8 9)) none (repaired (shape 8 2 2 1) (2 ∷ 0 ∷ []) (sets grid 160 (replicate 8 9))) ≡ record { answer = altered 8; pool = grid })
+    × (concludeRepair (set grid 184 9) none (repaired (shape 8 2 2 1) (2 ∷ 4 ∷ []) (set grid 184 9)) ≡ record { answer = altered 1; pool = grid })
+    × (concludeRepair grid none (repaired (shape 8 2 2 1) (0 ∷ 0 ∷ []) grid) ≡ record { answer = altered 0; pool = grid })
+    × (repair grid (4 ∷ 0 ∷ []) ≡ record { answer = repairRefused 2; pool = grid })
+unfolding opened
+repair-answers = (refl, refl, refl, refl)
 
 -- A bit above R is set; a mask has two bits or more.
 pub masks :

@@ -1,5 +1,5 @@
--- `same` is equality. Pools that agree in length and in both header pages open alike; a sound pool opens, and its shape is good. The id of a pool
--- that opens is not 0.
+-- `same` is equality. Pools that agree in length and in both header pages open alike, and those that agree before the zones pass the same tests
+-- (`front-reads`); a sound pool opens, and its shape is good. The id of a pool that opens is not 0.
 use Prim.Native.Nat.{ℕ, _+_, _%_, _≤_, _<_}
 use mathlib.Core.Path.{_≡_, refl, sym, ap, ap₂, _∙_}
 use mathlib.Core.Logic.{_≢_}
@@ -7,14 +7,17 @@ use mathlib.Core.Bool.{Bool, true, false, not}
 use mathlib.Core.List.{List, [], _∷_}
 use native.Mathlib.Omega.{arith}
 use lib.Dec.{leb, eqb}
-use lib.ListN.{length, take, drop, getD, length-drop}
-use lib.Seq.{ext-getD, getD-take, getD-drop, length-take-le}
+use lib.ListN.{length, take, drop, getD}
 use borrow.Author.Tests.{eqb-false, eqb-true, leb-true, le-ltb, eq-eqb, not-true}
-use Rattle.rules.specs.Shape.{Shape, poolSize}
+use Rattle.rules.specs.Words.{word}
+use Rattle.rules.specs.Shape.{Shape, logA, logB, poolSize, zonesAt}
 use Rattle.rules.specs.Header.{differing, headerId, headerIn, headerOk, headerShape, idIn, inRange, letters, openTests, pageAt, same, shapeIn, validHeader, version, within}
+use Rattle.rules.specs.Seals.{readTests, unsealed}
 use Rattle.rules.specs.Sound.{Sound}
 use Rattle.rules.proofs.Bool.{and-split, split}
 use Rattle.rules.proofs.Test.{Passed, not-not}
+use Rattle.rules.proofs.Words.{word-cong}
+use Rattle.rules.proofs.Parts.{part-ext}
 use Rattle.rules.proofs.Shape.{Good, good-shape, size-eq}
 
 pub same-refl : (xs : List ℕ) → same xs xs ≡ true
@@ -47,14 +50,8 @@ pub same-headers : (p q : List ℕ) → length p ≡ length q → 512 ≤ length
 unfolding pageAt
 same-headers p q e l h = record { header = page 0 (omega arith); copy = page 256 (omega arith); length-is = e }
   where
-    long : (r : List ℕ) (a : ℕ) → a ≤ 256 → 512 ≤ length r → length (take 256 (drop a r)) ≡ 256
-    long r a k m = length-take-le 256 (drop a r) (rw (length-drop a r) (omega arith))
-
     page : (a : ℕ) → a ≤ 256 → take 256 (drop a p) ≡ take 256 (drop a q)
-    page a k =
-        ext-getD 0 (take 256 (drop a p)) (take 256 (drop a q)) (long p a k l ∙ sym (long q a k (rw (← e) l)))
-        (λ i m. let j : i < 256 = rw (long p a k l) at m in
-        getD-take 256 (drop a p) i 0 j ∙ getD-drop a p i 0 ∙ h (a + i) (omega arith) ∙ sym (getD-take 256 (drop a q) i 0 j ∙ getD-drop a q i 0))
+    page a k = part-ext p q a 256 e (λ i m. h (a + i) (omega arith))
 
 module _ (p q : List ℕ) (h : SameHeaders p q) where
   pub shape-same : shapeIn p ≡ shapeIn q
@@ -68,6 +65,22 @@ module _ (p q : List ℕ) (h : SameHeaders p q) where
   pub tests-same : openTests p ≡ openTests q
   unfolding openTests differing shapeIn validHeader
   tests-same = rw (h .header, h .copy, h .length-is, openTests, differing, shapeIn, validHeader)
+
+-- ---- pools that agree before the zones
+
+module _ (p q : List ℕ) (g : Good (shapeIn p)) (l : length p ≡ poolSize (shapeIn p)) (e : length q ≡ length p)
+    (same : (i : ℕ) → i < zonesAt (shapeIn p) → getD q i 0 ≡ getD p i 0) where
+  pub front-headers : SameHeaders q p
+  front-headers = let k = g .page-min in let z = size-eq (shapeIn p) g in same-headers q p e (omega arith) (λ i h. same i (omega arith))
+
+  front-word : (a : ℕ) → a + 8 ≤ zonesAt (shapeIn p) → word q a ≡ word p a
+  front-word a h = word-cong q p a (λ i k. same (a + i) (omega arith))
+
+  pub front-reads : readTests q ≡ readTests p
+  unfolding readTests unsealed
+  front-reads =
+      let k = g .page-min in
+      rw (tests-same q p front-headers, shape-same q p front-headers, front-word (logA (shapeIn p)) (omega arith), front-word (logB (shapeIn p)) (omega arith))
 
 -- ---- a sound pool
 

@@ -3,11 +3,13 @@ pub mod Examples
 pub mod Bool
 pub mod Numbers
 pub mod Chain
+pub mod Sums
 pub mod Test
 pub mod Xor
 pub mod Words
 pub mod Sets
 pub mod Parts
+pub mod Differences
 pub mod Zeros
 pub mod Shape
 pub mod Stores
@@ -34,6 +36,7 @@ pub mod Sound
 pub mod Refusals
 pub mod Format
 pub mod Scrub
+pub mod Altered
 pub mod Scan
 pub mod ScanExample
 pub mod Mend

@@ -1,15 +1,24 @@
 -- Laws of parts and stores: what a part of a store holds. Assumes nothing.
-use Prim.Native.Nat.{ℕ, zero, suc, _+_, _≤_}
+use Prim.Native.Nat.{ℕ, zero, suc, _+_, _≤_, _<_}
 use mathlib.Core.Path.{_≡_, refl, sym, ap, _∙_}
 use mathlib.Core.List.{List, [], _∷_, _++_, append-assoc}
 use native.Mathlib.Nat.{add-zero}
 use native.Mathlib.Omega.{arith}
-use lib.ListN.{length, take, drop, set, length-drop, length-set, take-append-drop}
-use lib.Seq.{sets, sets-eq, length-take-le, take-all, take-append-le, drop-append-le, drop-at, drop-drop, set-out, take-add}
+use lib.ListN.{length, take, drop, getD, set, length-drop, length-set, length-take, take-append-drop}
+use lib.Seq.{sets, sets-eq, ext-getD, getD-drop, getD-take, length-take-le, take-all, take-append-le, drop-append-le, drop-at, drop-drop, set-out, take-add}
 use Rattle.rules.proofs.Sets.{sets-append}
 
 pub part-length : (l : List ℕ) (a n : ℕ) → a + n ≤ length l → length (take n (drop a l)) ≡ n
 part-length l a n h = length-take-le n (drop a l) (rw (length-drop a l) (omega arith))
+
+-- parts with the same bytes
+pub part-ext : (p q : List ℕ) (a n : ℕ) → length p ≡ length q → ((i : ℕ) → i < n → getD p (a + i) 0 ≡ getD q (a + i) 0) → take n (drop a p) ≡ take n (drop a q)
+part-ext p q a n e s =
+    ext-getD 0 (take n (drop a p)) (take n (drop a q)) (simp (length-take, length-drop, e))
+    (λ i h. let j : i < n = omega (arith, length-take n (drop a p)) in byte p i j ∙ s i j ∙ sym (byte q i j))
+  where
+    byte : (u : List ℕ) (i : ℕ) → i < n → getD (take n (drop a u)) i 0 ≡ getD u (a + i) 0
+    byte u i j = getD-take n (drop a u) i 0 j ∙ getD-drop a u i 0
 
 -- a part, longer by as much
 pub take-more : (p : List ℕ) (a k m : ℕ) → take (k + m) (drop a p) ≡ take k (drop a p) ++ take m (drop (a + k) p)

@@ -9,7 +9,7 @@ use native.Mathlib.Decide.{ℕ-discrete}
 use native.Mathlib.Omega.{arith}
 use borrow.Author.Tests.{eqb-true, eq-eqb, ne-eqb, leb-true, le-leb}
 use lib.Count.{ones, ones-step}
-use lib.Dec.{leb}
+use lib.Dec.{eqb, leb}
 use lib.ListN.{length, getD}
 use lib.Seq.{ext-getD}
 use Rattle.rules.specs.Shape.{Shape, byteAt, off, poolSize, row, rowAt, zone, zonesAt}
@@ -63,6 +63,17 @@ tab-cong n f g h =
     (λ i l. let j : i < n = rw (tab-length 0 n f) at l in
     tab-at 0 n f i j ∙ rw (zero-add i) (h i j) ∙ sym (tab-at 0 n g i j ∙ ap g (zero-add i)))
 
+-- ---- repair, byte by byte
+
+module _ (sh : Shape) (p ms : List ℕ) where
+  pub repaired-length : length (repaired sh ms p) ≡ length p
+  unfolding repaired
+  repaired-length = tab-length 0 (length p) (rebuilt sh ms p)
+
+  pub repaired-at : (i : ℕ) → i < length p → getD (repaired sh ms p) i 0 ≡ rebuilt sh ms p i
+  unfolding repaired
+  repaired-at i h = tab-at 0 (length p) (rebuilt sh ms p) i h ∙ ap (rebuilt sh ms p) (zero-add i)
+
 -- q is p but for lost pages, at most one a column, whatever they hold: the pool repaired is p, whole
 abbrev pub Restores : Shape → Type 0
 Restores sh =
@@ -81,7 +92,7 @@ module _ (sh : Shape) (g : Good sh) where
   unfolding rowAt
   row-zone i r = refl
 
-  module _ (ms p q : List ℕ) (par : Parity sh p) (one : (k : ℕ) → ones (getD ms k 0) ≤ 1)
+  module _ (ms p q : List ℕ) (one : (k : ℕ) → ones (getD ms k 0) ≤ 1)
       (same : (i : ℕ) → i < poolSize sh → lost sh ms i ≡ false → getD q i 0 ≡ getD p i 0) where
     -- where row k of a column is lost, each other row is not
     other : (i r : ℕ) → zonesAt sh ≤ i → i < poolSize sh → bit (maskAt sh ms i) (row sh i) ≡ 1 → r ≤ sh .rows → row sh i ≢ r
@@ -91,33 +102,37 @@ module _ (sh : Shape) (g : Good sh) where
         (ne-eqb (bit (maskAt sh ms (rowAt sh i r)) (row sh (rowAt sh i r))) 1 (λ e. n (bit-unique (row sh i) r (maskAt sh ms i) (one _) h
         (sym (ap₂ bit (row-mask ms i r l) (row-of sh g i r l)) ∙ e)))))
 
-    mended : (i : ℕ) → i < poolSize sh → (b : Bool) → lost sh ms i ≡ b → rebuilt sh ms q i ≡ getD p i 0
-    mended i h false e = rw e (same i h e)
-    mended i h true e =
-        rw e (xorTo-cong (suc (sh .rows)) (skip (row sh i) (λ r. getD q (rowAt sh i r) 0)) (skip (row sh i) (λ r. getD p (rowAt sh i r) 0)) each
-        ∙ xorTo-others (suc (sh .rows)) (λ r. getD p (rowAt sh i r) 0) (row sh i) (let k = row-below sh g i in omega arith) zero-sum
-        ∙ ap (λ (a : ℕ). getD p a 0) (row-self sh g i low))
+    -- a lost byte is rebuilt from bytes that are not lost
+    pub rebuilt-same : (i : ℕ) → i < poolSize sh → lost sh ms i ≡ true → rebuilt sh ms q i ≡ rebuilt sh ms p i
+    rebuilt-same i h e =
+        rw e (xorTo-cong (suc (sh .rows)) (skip (row sh i) (λ r. getD q (rowAt sh i r) 0)) (skip (row sh i) (λ r. getD p (rowAt sh i r) 0)) (λ r k. go r k (ℕ-discrete (row sh i) r)))
       where
-        low : zonesAt sh ≤ i
-        low = leb-true (zonesAt sh) i (and-split (leb (zonesAt sh) i) _ e .0)
+        a : (leb (zonesAt sh) i ≡ true) × (eqb (bit (maskAt sh ms i) (row sh i)) 1 ≡ true)
+        a = and-split (leb (zonesAt sh) i) _ e
 
-        set : bit (maskAt sh ms i) (row sh i) ≡ 1
-        set = eqb-true (bit (maskAt sh ms i) (row sh i)) 1 (and-split (leb (zonesAt sh) i) _ e .1)
+        go : (r : ℕ) → r < suc (sh .rows) → Dec (row sh i ≡ r) → skip (row sh i) (λ r. getD q (rowAt sh i r) 0) r ≡ skip (row sh i) (λ r. getD p (rowAt sh i r) 0) r
+        go r k (yes d) = rw (eq-eqb (row sh i) r d)
+        go r k (no d) =
+            rw (ne-eqb (row sh i) r d) (other i r (leb-true (zonesAt sh) i (a .0)) h (eqb-true (bit (maskAt sh ms i) (row sh i)) 1 (a .1)) (le-of-suc-le-suc k) d)
 
-        zero-sum : xorTo (suc (sh .rows)) (λ r. getD p (rowAt sh i r) 0) ≡ 0
-        zero-sum =
-            xorTo-cong (suc (sh .rows)) _ _ (λ r k. ap (λ (a : ℕ). getD p a 0) (row-zone i r)) ∙ par (zone sh i) (off sh i) (zone-below sh g i low h) (off-lt sh g i)
+  -- with right parity it is what it was
+  parity-rebuilt : (ms p : List ℕ) → Parity sh p → (i : ℕ) → i < poolSize sh → lost sh ms i ≡ true → rebuilt sh ms p i ≡ getD p i 0
+  parity-rebuilt ms p par i h e =
+      rw e (xorTo-others (suc (sh .rows)) (λ r. getD p (rowAt sh i r) 0) (row sh i) (let k = row-below sh g i in omega arith) zero-sum
+      ∙ ap (λ (a : ℕ). getD p a 0) (row-self sh g i low))
+    where
+      low : zonesAt sh ≤ i
+      low = leb-true (zonesAt sh) i (and-split (leb (zonesAt sh) i) _ e .0)
 
-        each : (r : ℕ) → r < suc (sh .rows) → skip (row sh i) (λ r. getD q (rowAt sh i r) 0) r ≡ skip (row sh i) (λ r. getD p (rowAt sh i r) 0) r
-        each r k = go (ℕ-discrete (row sh i) r) where
-          go : Dec (row sh i ≡ r) → skip (row sh i) (λ r. getD q (rowAt sh i r) 0) r ≡ skip (row sh i) (λ r. getD p (rowAt sh i r) 0) r
-          go (yes e) = rw (eq-eqb (row sh i) r e)
-          go (no e) = rw (ne-eqb (row sh i) r e) (other i r low h set (le-of-suc-le-suc k) e)
+      zero-sum : xorTo (suc (sh .rows)) (λ r. getD p (rowAt sh i r) 0) ≡ 0
+      zero-sum =
+          xorTo-cong (suc (sh .rows)) _ _ (λ r k. ap (λ (a : ℕ). getD p a 0) (row-zone i r)) ∙ par (zone sh i) (off sh i) (zone-below sh g i low h) (off-lt sh g i)
 
   pub restores : Restores sh
-  unfolding repaired
   restores ms p q lp lq par one same =
-      ext-getD 0 (tabFrom 0 (length q) (rebuilt sh ms q)) p (tab-length 0 (length q) (rebuilt sh ms q) ∙ lq ∙ sym lp)
-      (λ i h. let k : i < length q = subst (λ (n : ℕ). i < n) (tab-length 0 (length q) (rebuilt sh ms q)) h in
-      tab-at 0 (length q) (rebuilt sh ms q) i k ∙ ap (rebuilt sh ms q) (zero-add i)
-      ∙ mended ms p q par one same i (subst (λ (n : ℕ). i < n) lq k) (lost sh ms i) refl)
+      ext-getD 0 (repaired sh ms q) p (repaired-length sh q ms ∙ lq ∙ sym lp)
+      (λ i h. let k : i < length q = rw (repaired-length sh q ms) at h in repaired-at sh q ms i k ∙ mended i (subst (λ (n : ℕ). i < n) lq k) (lost sh ms i) refl)
+    where
+      mended : (i : ℕ) → i < poolSize sh → (b : Bool) → lost sh ms i ≡ b → rebuilt sh ms q i ≡ getD p i 0
+      mended i h false e = rw e (same i h e)
+      mended i h true e = rebuilt-same ms p q one same i h e ∙ parity-rebuilt ms p par i h e

@@ -21,6 +21,7 @@ use Rattle.rules.specs.Parity.{Parity, columnByte}
 use Rattle.rules.specs.Sound.{Sound, bookOf}
 use Rattle.rules.specs.Scrub.{allTo, brokenZones, columnRight, concludeScrub, countRuns, countTo, counts, damagedMet, objectsMet, scrub, sumTo, wrongColumns}
 use Rattle.rules.proofs.Bool.{and-join, and-split}
+use Rattle.rules.proofs.Sums.{zero-sum}
 use Rattle.rules.proofs.Test.{not-not, passed-first}
 use Rattle.rules.proofs.Shape.{Good}
 use Rattle.rules.proofs.Header.{sound-good}
@@ -50,11 +51,6 @@ sum-zero (suc n) f e i h = go (λ l. sum-zero n f (omega arith) i l) (last n i h
     go : (i < n → f i ≡ 0) → (i < n) ⊎ (i ≡ n) → f i ≡ 0
     go ih (inl l) = ih l
     go ih (inr q) = ap f q ∙ omega arith
-
-zero-sum : (n : ℕ) (f : ℕ → ℕ) → ((i : ℕ) → i < n → f i ≡ 0) → sumTo n f ≡ 0
-unfolding sumTo
-zero-sum zero f h = refl
-zero-sum (suc n) f h = rw (zero-sum n f (λ i l. h i (omega arith)), h n (omega arith))
 
 count-zero : (n : ℕ) (f : ℕ → Bool) → countTo n f ≡ 0 → (i : ℕ) → i < n → f i ≡ false
 unfolding countTo

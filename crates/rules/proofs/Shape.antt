@@ -132,6 +132,12 @@ module _ (sh : Shape) (g : Good sh) where
   pub fits : (t : ℕ) → t % 8 ≡ 0 → t < poolSize sh → t + 8 ≤ poolSize sh
   fits t e h = let k = size-even in omega arith
 
+  -- the column, counted zone by zone, of a byte of column c of zone z
+  pub column-cell : (z r c o : ℕ) → r ≤ sh .rows → c < sh .cols → o < sh .page
+      → zone sh (byteAt sh z r (c * sh .page + o)) * sh .cols + off sh (byteAt sh z r (c * sh .page + o)) / sh .page ≡ z * sh .cols + c
+  column-cell z r c o hr hc ho =
+      rw (zone-cell z r (c * sh .page + o) hr (digits-lt hc ho), off-cell z r (c * sh .page + o) (digits-lt hc ho), digits-div c ho)
+
 -- the limits of 01 on R, C and Z, at a page of whole cells of 256 to 4,096 bytes
 pub good-shape : (sh : Shape) → 256 ≤ sh .page → sh .page ≤ 4096 → sh .page % 64 ≡ 0 → 0 < sh .rows → sh .rows ≤ 15 → 0 < sh .cols → sh .cols ≤ 64 → sh .zones ≤ 16
     → Good sh

@@ -18,15 +18,14 @@ use Rattle.rules.specs.Book.{Listed, find}
 use Rattle.rules.specs.Zones.{bodyOf, goodFrom, headAt, poolBook, runThere, zoneData}
 use Rattle.rules.specs.Seals.{readTests, unsealed}
 use Rattle.rules.specs.Staging.{fresh}
-use Rattle.rules.specs.Answer.{concludePool, taken}
+use Rattle.rules.specs.Answer.{taken}
 use Rattle.rules.specs.Calls.{begun, concludeStart, entriesIn, transactionStart}
 use Rattle.rules.specs.Parity.{Parity}
 use Rattle.rules.specs.Sound.{Sound, bookOf}
 use Rattle.rules.specs.Look.{concludeLook, look, lookTests, part, seen}
-use Rattle.rules.specs.Repair.{Loss, anyTwo, repair, repairTests, repaired}
+use Rattle.rules.specs.Repair.{Loss, altered, anyTwo, concludeRepair, differences, repair, repairTests, repaired}
 use Rattle.rules.proofs.Bool.{or-false}
 use Rattle.rules.proofs.Test.{Passed, first-passed, passed-first, passed-join, passed-right}
-use Rattle.rules.proofs.Words.{word-cong}
 use Rattle.rules.proofs.Shape.{Good, row-in-zone, size-eq, zone-low}
 use Rattle.rules.proofs.Repair.{restores}
 use Rattle.rules.proofs.Zones.{Fits, good-fits, zone-in, zone-length}
@@ -34,7 +33,7 @@ use Rattle.rules.proofs.Held.{Held}
 use Rattle.rules.proofs.Calls.{Named, named-object, object-named}
 use Rattle.rules.proofs.StagedBook.{held-start, same-book, same-zones}
 use Rattle.rules.proofs.Look.{body-there, book-object, object-book}
-use Rattle.rules.proofs.Header.{SameHeaders, page-is, same-headers, shape-same, sound-good, sound-long, sound-opens, tests-same}
+use Rattle.rules.proofs.Header.{SameHeaders, front-headers, front-reads, shape-same, sound-good, sound-opens}
 use Rattle.rules.proofs.Transaction.{Kept}
 
 -- ---- a fresh transaction over a sound pool
@@ -147,25 +146,17 @@ module _ (p q ms : List ℕ) (s : Sound p) (l : Loss p q ms) where
   front : (i : ℕ) → i < zonesAt (shapeIn p) → getD q i 0 ≡ getD p i 0
   front i h = l .others i (let e = size-eq (shapeIn p) (sound-good p s) in let k = s .length-is in omega arith) (rw (lt-leb (zonesAt (shapeIn p)) i h))
 
-  same : SameHeaders q p
-  same = same-headers q p (l .length-is) (let k = sound-long p s in let e = l .length-is in omega arith) (λ i h. front i (let k = page-is p s in omega arith))
-
-  word-front : (a : ℕ) → a + 8 ≤ zonesAt (shapeIn p) → word q a ≡ word p a
-  word-front a h = word-cong q p a (λ i k. front (a + i) (omega arith))
-
-  -- REPAIR RESTORES EVERY BYTE
-  pub repair-restores : repair q ms ≡ record { answer = taken; pool = p }
-  unfolding repair repairTests readTests concludePool
+  -- REPAIR RESTORES EVERY BYTE, and answers how many it altered
+  pub repair-restores : repair q ms ≡ record { answer = altered (differences q p); pool = p }
+  unfolding repair repairTests concludeRepair
   repair-restores =
-      let e : shapeIn q ≡ shapeIn p = shape-same q p same in
-      let k = page-is p s in
-      let u : unsealed (shapeIn p) q ≡ true =
-      unfold unsealed in (rw (word-front (logA (shapeIn p)) (omega arith), word-front (logB (shapeIn p)) (omega arith)) (s .seals)) in
+      let g = sound-good p s in
+      let e : shapeIn q ≡ shapeIn p = shape-same q p (front-headers p q g (s .length-is) (l .length-is) front) in
       let t : first (repairTests q ms) ≡ none =
-      passed-first _ (passed-join (readTests q) _ (passed-join (openTests q) _ (rw (tests-same q p same) (sound-opens p s)) (rw (e, u), tt))
+      passed-first _ (passed-join (readTests q) _ (rw (front-reads p q g (s .length-is) (l .length-is) front) (sound-reads p s))
       (rw (e, eq-eqb (length ms) (shapeIn p .zones * shapeIn p .cols) (l .masks), l .rows), (l .single, tt))) in
       let r : repaired (shapeIn q) ms q ≡ p =
       ap (λ (x : Shape). repaired x ms q) e
-      ∙ restores (shapeIn p) (sound-good p s) ms p q (s .length-is) (l .length-is ∙ s .length-is) (s .parity) (single-bits ms (l .single))
+      ∙ restores (shapeIn p) g ms p q (s .length-is) (l .length-is ∙ s .length-is) (s .parity) (single-bits ms (l .single))
       (λ i h. l .others i (rw (s .length-is) h)) in
       rw (t, r)

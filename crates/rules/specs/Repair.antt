@@ -1,6 +1,7 @@
 -- Page repair (01, "Repair and scrub"). 01's repair is a parity rebuild. Assumes nothing.
 use mathlib.Core.Path.{_≡_}
 use mathlib.Core.Bool.{Bool, false, not, cond, _&&_, _||_}
+use mathlib.Core.Option.{Option, none, some}
 use mathlib.Core.List.{List, [], _∷_, _++_}
 use Prim.Native.Nat.{ℕ, zero, suc, _+_, _*_, _/_, _%_, _^_, _<_}
 use lib.Count.{ones}
@@ -10,7 +11,6 @@ use Rattle.rules.specs.Shape.{Shape, off, row, rowAt, zone, zonesAt}
 use Rattle.rules.specs.Test.{Test, first, when}
 use Rattle.rules.specs.Header.{shapeIn}
 use Rattle.rules.specs.Seals.{readTests}
-use Rattle.rules.specs.Answer.{Changed, concludePool}
 use Rattle.rules.specs.Parity.{skip, xorTo}
 
 -- The list f k .. f (k + n - 1).
@@ -53,8 +53,28 @@ repairTests p ms =
     ∷ when (anyTwo ms) 28
     ∷ [])
 
-unfoldable pub repair : List ℕ → List ℕ → Changed
-repair p ms = concludePool p (first (repairTests p ms)) (repaired (shapeIn p) ms p)
+-- At how many places two lists of one length differ.
+unfoldable pub differences : List ℕ → List ℕ → ℕ
+differences [] after = 0
+differences (x ∷ before) [] = 0
+differences (x ∷ before) (y ∷ after) = cond (eqb x y) 0 1 + differences before after
+
+-- What repair answers: how many bytes it altered (A.8), or a refusal.
+pub data Repair : Type 0 where
+  altered : ℕ → Repair
+  refused : ℕ → Repair
+
+-- And the pool that it leaves. A refusal returns its number and changes nothing.
+pub record Repaired : Type 0 where
+  pub answer : Repair
+  pub pool : List ℕ
+
+unfoldable pub concludeRepair : List ℕ → Option ℕ → List ℕ → Repaired
+concludeRepair p none new = record { answer = altered (differences p new); pool = new }
+concludeRepair p (some n) new = record { answer = refused n; pool = p }
+
+unfoldable pub repair : List ℕ → List ℕ → Repaired
+repair p ms = concludeRepair p (first (repairTests p ms)) (repaired (shapeIn p) ms p)
 
 -- q is the pool p after a loss of zone pages: at most one a column, whatever bytes they now hold, and ms lists exactly them.
 pub record Loss (p q ms : List ℕ) : Type 0 where

@@ -12,9 +12,10 @@ use Rattle.rules.specs.Words.{ascii}
 use Rattle.rules.specs.Test.{first}
 use Rattle.rules.specs.Header.{shapeIn}
 use Rattle.rules.specs.Seals.{readTests}
-use Rattle.rules.specs.Scrub.{columnRight, countTo, sumTo, wrongColumns}
+use Rattle.rules.specs.Scrub.{columnRight, countTo, wrongColumns}
 use Rattle.rules.specs.Scan.{concludeScan, poolText, poolscan, scanTests, zonesText}
 use Rattle.rules.proofs.Bool.{split}
+use Rattle.rules.proofs.Sums.{sum-le}
 use Rattle.layout.specs.declared.Shape.{Shape}
 use Rattle.layout.specs.declared.Opened.the-variants as Opening
 use Rattle.layout.specs.Meaning.{InRange, Shaped, answer, shapeOf}
@@ -53,11 +54,6 @@ count-le : (n : ℕ) (f : ℕ → Bool) → countTo n f ≤ n
 unfolding countTo
 count-le zero f = omega arith
 count-le (suc n) f = let i = count-le n f in split (f n) (λ e. rw e (omega arith)) (λ e. rw e (omega arith))
-
-sum-le : (n k : ℕ) (f : ℕ → ℕ) → ((i : ℕ) → f i ≤ k) → sumTo n f ≤ n * k
-unfolding sumTo
-sum-le zero k f h = omega arith
-sum-le (suc n) k f h = omega (arith, sum-le n k f h, h n)
 
 columns-few : (s : Shape) → InRange (shapeOf s) → (p : List ℕ) → wrongColumns (shapeOf s) p ≤ 16 * 64
 unfolding wrongColumns

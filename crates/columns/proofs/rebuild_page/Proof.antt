@@ -22,24 +22,24 @@ slice-aggregate-xor-pages c = let a = c .before .before in sym (front-length (a 
 xor-pages-requires : tie.Need-xor-pages-requires
 xor-pages-requires c κs = let a = c .before .before .before in (front-zeros (a .args .page) pageSize (a .pre .2), same-room (a .args .at + a .args .rows * a .args .stride) (a .args .page) _ (length (a .args .pool .now) + a .args .stride) (front-length (a .args .page) pageSize (a .pre .2)) (a .pre .0))
 
-mul-store : tie.Need-mul-store
-mul-store c = omega (arith, room (c .before .before .before .before .before .before))
+mul-replace : tie.Need-mul-replace
+mul-replace c = omega (arith, room (c .before .before .before .before .before .before))
 
-add-store : tie.Need-add-store
-add-store c = omega (arith, room (c .before .before .before .before .before .before))
+add-replace : tie.Need-add-replace
+add-replace c = omega (arith, room (c .before .before .before .before .before .before))
 
 array-share-prefix-sum : tie.Need-array-share-prefix-sum
 array-share-prefix-sum c =
     let a = c .before .before .before .before .before .before in
     let x = c .before .before .xor-pages in front-fits (a .args .page) pageSize (a .pre .2) (x .last .0) (x .kept .0)
 
-slice-aggregate-store : tie.Need-slice-aggregate-store
-slice-aggregate-store c =
+slice-aggregate-replace : tie.Need-slice-aggregate-replace
+slice-aggregate-replace c =
     let a = c .before .before .before .before .before .before .before in
     let x = c .before .before .before .xor-pages in sym (front-count (a .args .page) pageSize (a .pre .2) (x .last .0) (x .kept .0))
 
-store-requires : tie.Need-store-requires
-store-requires c κs =
+replace-requires : tie.Need-replace-requires
+replace-requires c κs =
     let a = c .before .before .before .before .before .before .before in
     let x = c .before .before .before .xor-pages in same-room (a .args .at + a .args .lost * a .args .stride) (a .args .page) _ _ (front-count (a .args .page) pageSize (a .pre .2) (x .last .0) (x .kept .0)) (room a)
 
@@ -47,9 +47,13 @@ returns : tie.Need-returns
 returns c =
     let a = c .before .before .before .before .before .before .before .before .before .before in
     let x = c .before .before .before .before .before .before .xor-pages in
-    c .before .before .store .ensures
-    ∙ ap (sets (a .args .pool .now) (a .args .at + a .args .lost * a .args .stride))
-    (front-filled (a .args .page) pageSize (a .pre .2) (x .last .0) (x .kept .0) (otherByte (a .args .pool .now) (a .args .at) (a .args .stride) (a .args .rows) (a .args .lost)) (x .ensures))
+    let r = c .before .before .replace .ensures in
+    let n = front-count (a .args .page) pageSize (a .pre .2) (x .last .0) (x .kept .0) in (
+      r .0 ∙ ap (sets (a .args .pool .now) (a .args .at + a .args .lost * a .args .stride))
+          (front-filled (a .args .page) pageSize (a .pre .2) (x .last .0) (x .kept .0) (otherByte (a .args .pool .now) (a .args .at) (a .args .stride) (a .args .rows) (a .args .lost)) (x .ensures)),
+      r .1,
+      omega (arith, n, r .2),
+    )
 
 pub rebuild-page-spec : {M : Type 1} → statement M
 rebuild-page-spec =
@@ -58,10 +62,10 @@ rebuild-page-spec =
     (λ c. search needs)
     slice-aggregate-xor-pages
     xor-pages-requires
-    mul-store
-    add-store
+    mul-replace
+    add-replace
     array-share-prefix-sum
-    slice-aggregate-store
-    store-requires
+    slice-aggregate-replace
+    replace-requires
     (λ c. search needs)
     returns)

@@ -6,7 +6,7 @@ use Rattle.rules.specs.Seals.{readTests}
 use Rattle.layout.specs.declared.Opened.the-variants.{Good}
 use Rattle.layout.specs.Meaning.{answer}
 use Rattle.log.proofs.Opening.{read-shaped}
-use Rattle.pool.proofs.Repairing.{Tested, columns-small, repair-above, repair-taken, repair-length, repair-refused, repair-two}
+use Rattle.pool.proofs.Repairing.{Tested, columns-small, repair-above, repair-altered, repair-length, repair-refused, repair-two}
 use native.Mathlib.Omega.{arith}
 use borrow.Author.Needs.{needs}
 use Rattle.pool.proofs.repair.Statement.{statement}
@@ -52,7 +52,7 @@ returns-4 : tie.Need-returns-4
 returns-4 c = repair-refused _ _ _ (sym (c .before .before .before .quiet .ensures) ∙ c .before .n .given .1)
 
 returns-5 : tie.Need-returns-5
-returns-5 c = repair-taken (tested (c .before .before .before)) (c .before .before .repair-pages .ensures)
+returns-5 c = let r = c .before .before .repair-pages .ensures in repair-altered (tested (c .before .before .before)) (r .0) (r .1)
 
 pub repair-spec : {M : Type 1} → statement M
 repair-spec =

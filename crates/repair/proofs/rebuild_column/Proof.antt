@@ -43,7 +43,10 @@ rebuild-page-requires c κs =
     (omega arith, omega (arith, lost-below a), page-most (a .args .s) (a .pre .0))
 
 returns : tie.Need-returns
-returns c = let a = c .before .before .before .before .before .before .before .before .before .before in column-rebuilt (shapeOf (a .args .s)) (a .args .pool .now) _ (a .args .k) _ _ _ (c .before .before .before .before .before .before .column-at .ensures) (c .before .before .before .before .row-size .ensures) (c .before .before .rebuild-page .ensures)
+returns c =
+    let a = c .before .before .before .before .before .before .before .before .before .before in
+    let r = c .before .before .rebuild-page .ensures in
+    (column-rebuilt (shapeOf (a .args .s)) (a .args .pool .now) _ (a .args .k) _ _ _ (c .before .before .before .before .before .before .column-at .ensures) (c .before .before .before .before .row-size .ensures) (r .0), r .1)
 
 pub rebuild-column-spec : {M : Type 1} → statement M
 rebuild-column-spec =

@@ -1,63 +1,63 @@
 -- `repair::repair_pages` meets its contract. Assumes nothing.
-use Prim.Native.Nat.{ℕ, _-_, _≤_, _<_}
+use Prim.Native.Nat.{ℕ, _+_, _-_, _≤_}
 use mathlib.Core.Path.{_≡_, refl, sym, ap, _∙_}
 use mathlib.Core.Logic.{⊎-elim}
 use native.Mathlib.Omega.{arith}
 use borrow.Author.Needs.{needs}
-use lib.ListN.{length, take}
-use lib.Seq.{take-length}
-use Rattle.rules.specs.Repair.{repaired}
+use lib.ListN.{length}
+use Rattle.rules.specs.Repair.{differences}
+use Rattle.rules.proofs.Differences.{differences-most}
 use Rattle.layout.specs.Meaning.{shapeOf}
 use Rattle.layout.proofs.Range.{bounds, shape-good}
-use Rattle.repair.proofs.Repaired.{repaired-zero, repaired-lost, mask-one, mask-small, repaired-none}
+use Rattle.repair.proofs.Repaired.{Rebuildable, Repairing, mask-one, mask-small, repairing-all, repairing-few, repairing-lost, repairing-none, repairing-size, repairing-zero}
 use Rattle.repair.proofs.repair_pages.Statement.{statement}
 use Rattle.repair.proofs.repair_pages.Tie as tie
 
 abbrev Inv-loop : tie.InvT-loop
-Inv-loop s pool₀ lost k₀ k-end pool k =
-    (k ≤ length lost) × (k-end ≡ length lost) × (length pool ≡ length pool₀) × (pool ≡ repaired (shapeOf s) (take k lost) pool₀)
+Inv-loop s pool₀ lost altered₀ k₀ k-end pool altered k =
+    (k ≤ length lost) × (k-end ≡ length lost) × (length pool ≡ length pool₀) × Repairing (shapeOf s) pool₀ lost k pool altered
 
 abbrev μ-loop : tie.MeasureT-loop
-μ-loop s pool₀ lost k₀ k-end pool k = length lost - k
+μ-loop s pool₀ lost altered₀ k₀ k-end pool altered k = length lost - k
 
 loop-holds : tie.Need-loop-holds Inv-loop μ-loop
-loop-holds c = (search needs, refl, refl, sym (repaired-none _ _ (c .before .before .args .lost .now)))
+loop-holds c = let a = c .before .before .args in (search needs, refl, refl, repairing-none (shapeOf (a .s)) (a .pool .now) (a .lost .now))
+
+rebuildable : (c : tie.Start Inv-loop μ-loop) → Rebuildable (shapeOf (c .args .s)) (c .args .pool .now) (c .args .lost .now)
+rebuildable c =
+    record {
+      good = shape-good (c .args .s) (c .pre .0);
+      size = c .pre .1;
+      rows = bounds (c .args .s) (c .pre .0) .rows-high;
+      masks = c .pre .2;
+      above = c .pre .3;
+      two = c .pre .4;
+    }
 
 rebuild-column-requires : tie.Need-rebuild-column-requires Inv-loop μ-loop
 rebuild-column-requires c κs =
     let a = c .before .before .before .before .before .before .before in
     let l = c .before .before .before .before .loop in
-    let b = bounds (a .args .s) (a .pre .0) in
-    let g = shape-good (a .args .s) (a .pre .0) in
-    let h : l .k < length (a .args .lost .now) = omega arith in (
-      a .pre .0,
-      l .inv .2 ∙ a .pre .1,
-      omega arith,
-      mask-small (shapeOf (a .args .s)) g (a .args .pool .now) (a .args .lost .now) (a .pre .1) (b .rows-high) (a .pre .2) (a .pre .3) (a .pre .4) (l .k) h,
-      mask-one (shapeOf (a .args .s)) g (a .args .pool .now) (a .args .lost .now) (a .pre .1) (b .rows-high) (a .pre .2) (a .pre .3) (a .pre .4) (l .k) h (c .before .if1 .taken),
-    )
+    let g = rebuildable a in (a .pre .0, l .inv .2 ∙ a .pre .1, omega arith, mask-small g (l .k), mask-one g (l .k) (c .before .if1 .taken))
+
+-- both numbers are at most the pool's length
+add-altered : tie.Need-add-altered Inv-loop μ-loop
+add-altered c =
+    let l = c .before .before .before .before .before .before .before .loop in
+    let r = c .before .before .rebuild-column in
+    omega (arith, repairing-few (l .inv .3), l .inv .2, differences-most (l .pool) (r .last .1 .0), r .ensures .1)
 
 loop-again : tie.Need-loop-again Inv-loop μ-loop
 loop-again c =
     let a = c .before .before .before .before .before .before in
     let l = c .before .before .before .loop in
-    let b = bounds (a .args .s) (a .pre .0) in
-    let g = shape-good (a .args .s) (a .pre .0) in
-    let h : l .k < length (a .args .lost .now) = omega arith in (
-      omega arith,
-      l .inv .1,
-      ⊎-elim (λ w. ap length (w .5) ∙ w .2 .kept .1 .0 ∙ l .inv .2) (λ w. ap length (w .1) ∙ l .inv .2) (c .if1 .came),
-      ⊎-elim (λ w. w .5 ∙ repaired-lost (shapeOf (a .args .s)) g (a .args .pool .now) (a .args .lost .now) (a .pre .1) (b .rows-high) (a .pre .2) (a .pre .3) (a .pre .4) (l .k) h (l .pool) _ (w .0 .taken) (l .inv .3) (w .2 .ensures))
-          (λ w. w .1 ∙ l .inv .3 ∙ sym (repaired-zero (shapeOf (a .args .s)) (a .args .pool .now) (a .args .lost .now) (l .k) (w .0 .left))) (c .if1 .came),
-    )
+    let g = rebuildable a in
+    let n : Repairing (shapeOf (a .args .s)) (a .args .pool .now) (a .args .lost .now) (l .k + 1) (c .if1 .pool) (c .if1 .altered) =
+    ⊎-elim (λ w. repairing-lost g (l .k) (l .inv .3) (omega arith) (w .0 .taken) (w .5 ∙ w .2 .ensures .0) (w .6 ∙ ap (λ (x : ℕ). l .altered + x) (w .2 .ensures .1 ∙ ap (differences (l .pool)) (sym (w .5)))))
+    (λ w. repairing-zero g (l .k) (l .inv .3) (w .0 .left) (w .1) (w .2)) (c .if1 .came) in (omega arith, l .inv .1, repairing-size n, n)
 
 returns : tie.Need-returns Inv-loop μ-loop
-returns c =
-    let a = c .before .before .before .before in
-    let l = c .before .loop in
-    let e : l .k ≡ length (a .args .lost .now) = omega arith in
-    l .inv .3 ∙ ap (λ (x : ℕ). repaired (shapeOf (a .args .s)) (take x (a .args .lost .now)) (a .args .pool .now)) e
-    ∙ ap (λ x. repaired (shapeOf (a .args .s)) x (a .args .pool .now)) (take-length (a .args .lost .now))
+returns c = let l = c .before .loop in (repairing-all (l .inv .3) (omega arith), l .inv .3 .count)
 
 pub repair-pages-spec : {M : Type 1} → statement M
 repair-pages-spec =
@@ -69,6 +69,7 @@ repair-pages-spec =
     (λ c. search needs)
     (λ c. search needs)
     rebuild-column-requires
+    add-altered
     (λ c. search needs)
     (λ c. search needs)
     loop-again

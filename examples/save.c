@@ -1,6 +1,6 @@
 /*
  * A first program with the pool: a set-up is saved as an object, the power fails in the middle of a commit, the pool is recovered and
- * the object read back.
+ * the object read back; then its page is lost and rebuilt.
  *
  * The memory is modelled here by two arrays: `pool` is what the processor sees, `stable` what has reached the memory module. On a
  * device `pool` is the module itself, `barrier` flushes and fences, and a power cut needs no code.
@@ -119,6 +119,17 @@ static void show(size_t address)
     printf("object %zu: %.*s\n", address, (int)body.length, (const char *)pool + body.offset);
 }
 
+/* The zone's first page, which holds the object, is lost: row 0 of column 0. Repair tells how many bytes were not as they are now. */
+static void lose_page_and_repair(void)
+{
+    const uint16_t lost[2] = {1, 0};
+    memset(pool + 18 * 256, 0xEE, 256);
+    pool_repaired repaired = pool_repair(pool, LENGTH, lost, 2);
+    require("repair", repaired.refusal);
+    barrier();
+    printf("repair: %zu bytes altered\n", repaired.altered);
+}
+
 int main(void)
 {
     require("format", pool_format(pool, LENGTH, 2, 2, 1, 1));
@@ -138,6 +149,9 @@ int main(void)
         return 1;
     }
     recover();
+    show(address);
+
+    lose_page_and_repair();
     show(address);
 
     pool_counts counts = pool_scrub(pool, LENGTH);

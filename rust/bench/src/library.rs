@@ -1,10 +1,10 @@
 //! The two implementations behind one table of functions, so that both are called alike.
-use reference::{Counts, Recovery, RecoveryReply, Reply, Transaction};
+use reference::{Counts, Recovery, RecoveryReply, Repaired, Reply, Transaction};
 
 #[allow(clippy::type_complexity)] // the signatures of pool.h
 pub struct Library {
     pub scrub: fn(&[u8]) -> Counts,
-    pub repair: fn(&mut [u8], &[u16]) -> usize,
+    pub repair: fn(&mut [u8], &[u16]) -> Repaired,
     pub check: fn(&[u8]) -> u32,
     begin: fn(&[u8]) -> Reply,
     pub allocate: fn(Transaction, &[u8], &mut [u8], u32, &[u8]) -> Reply,

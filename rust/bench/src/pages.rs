@@ -4,6 +4,7 @@ use crate::library::{PLAIN, PROVED};
 use crate::measure::{best, timed};
 use crate::native::{self, Check};
 use crate::report::{Row, Unit};
+use reference::Repaired;
 use std::cell::RefCell;
 use std::hint::black_box;
 
@@ -70,7 +71,8 @@ pub fn repair() -> Vec<Row> {
     [SMALL, LARGEST].map(repair_row).into()
 }
 
-type Repair<'a> = Box<dyn Fn(&mut Pool) + 'a>;
+/// Repairs a pool in which so many bytes are not as they were.
+type Repair<'a> = Box<dyn Fn(&mut Pool, usize) + 'a>;
 
 /// One page lost in each column, in one row after the other.
 fn repair_row(shape: Shape) -> Row {
@@ -80,22 +82,23 @@ fn repair_row(shape: Shape) -> Row {
     columns.iter().for_each(|pages| lossy[*pages.last().unwrap()..][..PAGE].fill(0xEE));
     let lost: Vec<u16> = (0..columns.len()).map(|i| 1 << (i % (shape.rows + 1))).collect();
     let mut repairs: Vec<(&str, Repair)> = vec![
-        ("library", Box::new(|pool| assert_eq!((PROVED.repair)(pool, black_box(&lost)), 0))),
-        ("plain Rust", Box::new(|pool| assert_eq!((PLAIN.repair)(pool, black_box(&lost)), 0))),
-        ("Rust xor loop", Box::new(|pool| columns.iter().for_each(|pages| xor_loop(pool, pages)))),
+        ("library", Box::new(|pool, altered| assert_eq!((PROVED.repair)(pool, black_box(&lost)), Repaired { refusal: 0, altered }))),
+        ("plain Rust", Box::new(|pool, altered| assert_eq!((PLAIN.repair)(pool, black_box(&lost)), Repaired { refusal: 0, altered }))),
+        ("Rust xor loop", Box::new(|pool, _| columns.iter().for_each(|pages| xor_loop(pool, pages)))),
     ];
     if let Some(xor) = native::isal_xor() {
         let columns = &columns;
-        repairs.push(("ISA-L", Box::new(move |pool| columns.iter().for_each(|pages| xor(pool, pages)))));
+        repairs.push(("ISA-L", Box::new(move |pool, _| columns.iter().for_each(|pages| xor(pool, pages)))));
     }
+    let altered = lossy.iter().zip(&pool[..]).filter(|(lost, whole)| lost != whole).count();
     for (name, repair) in &repairs {
         let mut copy = lossy.clone();
-        repair(&mut copy);
+        repair(&mut copy, altered);
         assert!(copy[..] == pool[..], "{name}");
     }
     // All work on one pool, which each repair leaves as it was: with a pool each they would take the cache from each other.
     let shared = RefCell::new(pool);
-    let times = best(repairs.iter().map(|(_, repair)| timed(|| repair(&mut shared.borrow_mut()))).collect());
+    let times = best(repairs.iter().map(|(_, repair)| timed(|| repair(&mut shared.borrow_mut(), 0))).collect());
     let what = format!("repair {}, one page a column", shape.name());
     let touched = columns.len() * (shape.rows + 1) * PAGE;
     let row = Row::new("repair", what, bytes(touched), Unit::Rate { bytes: touched }, times[0], times[1]);

@@ -1,5 +1,6 @@
 //! The calls of the boundary as values, made on the library and on the reference with everything compared.
-use linked::{Counts, Part, Recovery, RecoveryReply, Reply, Transaction};
+use crate::layout::{differing, LOGS};
+use linked::{Counts, Part, Recovery, RecoveryReply, Repaired, Reply, Transaction};
 
 /// What calls are given and change.
 #[derive(Clone, Debug, PartialEq, Eq)]
@@ -44,6 +45,7 @@ pub enum Answer {
     Refusal(usize),
     Part(Part),
     Counts(Counts),
+    Repaired(Repaired),
     Sum(u32),
     Reply(Reply),
     RecoveryReply(RecoveryReply),
@@ -84,11 +86,17 @@ impl Answer {
             Answer::Refusal(n) => (n, None),
             Answer::Part(part) => (part.refusal, None),
             Answer::Counts(counts) => (counts.refusal, None),
+            Answer::Repaired(repaired) => (repaired.refusal, None),
             Answer::Sum(_) => (0, None),
             Answer::Reply(Reply { kind, value, .. }) | Answer::RecoveryReply(RecoveryReply { kind, value, .. }) => {
                 (if kind == linked::REFUSED { value } else { 0 }, Some(kind))
             }
         }
+    }
+
+    /// Whether it is a repair's and tells another number than that of the bytes which differ.
+    fn miscounts(&self, before: &[u8], after: &[u8]) -> bool {
+        matches!(self, Answer::Repaired(repaired) if repaired.altered != differing(before, after))
     }
 
     /// What later calls are given: the record handed back.
@@ -109,7 +117,7 @@ macro_rules! make_call {
                 Call::Mend => Answer::Refusal($side::mend(pool)),
                 &Call::Look(address) => Answer::Part($side::look(pool, address)),
                 Call::Scrub => Answer::Counts($side::scrub(pool)),
-                Call::Repair(lost) => Answer::Refusal($side::repair(pool, lost)),
+                Call::Repair(lost) => Answer::Repaired($side::repair(pool, lost)),
                 Call::Check(bytes) => Answer::Sum($side::check(bytes)),
                 Call::Begin => Answer::Reply($side::begin(pool)),
                 Call::Allocate { tag, body } => Answer::Reply($side::allocate(t, pool, staging, *tag, body)),
@@ -158,7 +166,8 @@ impl Lent {
 }
 
 /// Makes the call on both sides. The answers, and every byte of pool and staging memory, must be equal, and nothing
-/// may change if the call is refused, the record apart if the call is to begin one. `given` is left as the call leaves it.
+/// may change if the call is refused, the record apart if the call is to begin one. Each side's repair must answer how many
+/// bytes it altered. `given` is left as the call leaves it.
 pub fn compare(call: &Call, given: &mut Given, alignment: usize) -> Answer {
     let before = given.clone();
     let (t, r) = (given.transaction, given.recovery);
@@ -171,6 +180,8 @@ pub fn compare(call: &Call, given: &mut Given, alignment: usize) -> Answer {
     let memory_changed = || given.pool != before.pool || given.staging != before.staging;
     let records_changed = !call.begins() && (given.transaction, given.recovery) != (t, r);
     let faults = [
+        (got.miscounts(&before.pool, pool.bytes()), "the library miscounts the bytes altered"),
+        (wanted.miscounts(&before.pool, &given.pool), "the reference miscounts the bytes altered"),
         (got != wanted, "the answers differ"),
         (pool.bytes() != given.pool, "the pools differ"),
         (staging.bytes() != given.staging, "the staging memories differ"),
@@ -193,7 +204,7 @@ fn describe(call: &Call, given: &Given) -> String {
         pool.len(),
         pool.get(..20),
         pool.get(256..276),
-        word(crate::layout::LOGS[0]),
-        word(crate::layout::LOGS[1]),
+        word(LOGS[0]),
+        word(LOGS[1]),
     )
 }

@@ -157,7 +157,7 @@ fn number(text: &str) -> Option<i64> {
 /// Instructions that change their last operand alone, and have no form by the operand's size.
 const LAST_ONLY: &str =
     "movabs movslq movsbl movsbq movswl movswq movzbl movzbw movzbq movzwl movzwq movd movups movaps movupd movapd movdqu movdqa movhps \
-    movlps movhpd movlpd pxor por pand pandn xorps orps andps paddd paddq psubd psubq psllq psrlq pslldq psrldq pshufd shufps \
+    movlps movhpd movlpd pxor por pand pandn xorps orps andps paddb paddd paddq psubb psubd psubq psadbw psllq psrlq pslldq psrldq pshufd shufps \
     punpcklqdq punpckhqdq unpcklpd unpckhpd pcmpeqb pcmpeqd pmovmskb movmskps bswap tzcnt bsf";
 
 impl Instruction {

@@ -2,6 +2,7 @@
 //! lost and repaired.
 use crate::layout::*;
 use crate::random::Random;
+use linked::Repaired;
 
 /// The pool must be sound, with exactly these objects.
 pub fn judge(pool: &[u8], wanted: &[Object]) {
@@ -14,8 +15,8 @@ pub fn judge(pool: &[u8], wanted: &[Object]) {
     }
 }
 
-/// Each page of the zones is lost in turn, then one in every column at once; repair must restore every byte. Answers
-/// the number of pages lost.
+/// Each page of the zones is lost in turn, then one in every column at once; repair must restore every byte, answer how many
+/// it altered, and alter none when it is repeated. Answers the number of pages lost.
 pub fn lose_pages(random: &mut Random, pool: &[u8]) -> usize {
     let shape = header_shape(&pool[..PAGE]).expect("a valid header");
     let columns = shape.zones * shape.cols;
@@ -33,11 +34,11 @@ pub fn lose_pages(random: &mut Random, pool: &[u8]) -> usize {
 
 fn lose(random: &mut Random, shape: Shape, pool: &[u8], lost: &[u16]) {
     let mut damaged = pool.to_vec();
-    for (column, mask) in lost.iter().enumerate().filter(|(_, &mask)| mask != 0) {
-        let row = mask.trailing_zeros() as usize;
-        let at = shape.page(column / shape.cols, row, column % shape.cols);
+    for at in shape.lost_pages(lost) {
         damaged[at..at + PAGE].copy_from_slice(&random.bytes(PAGE));
     }
-    assert_eq!(linked::repair(&mut damaged, lost), 0);
-    assert!(damaged == pool, "repair restores every byte: {lost:?}");
+    for altered in [differing(&damaged, pool), 0] {
+        assert_eq!(linked::repair(&mut damaged, lost), Repaired { refusal: 0, altered });
+        assert!(damaged == pool, "repair restores every byte: {lost:?}");
+    }
 }

@@ -70,6 +70,12 @@ impl Shape {
     pub fn page(self, z: usize, row: usize, col: usize) -> usize {
         self.zone(z) + row * self.row() + col * PAGE
     }
+
+    /// Where the pages lie that a loss list names, one in a column at most.
+    pub fn lost_pages(self, lost: &[u16]) -> Vec<usize> {
+        let named = lost.iter().enumerate().filter(|(_, &mask)| mask != 0);
+        named.map(|(column, mask)| self.page(column / self.cols, mask.trailing_zeros() as usize, column % self.cols)).collect()
+    }
 }
 
 /// A little-endian number of `width` bytes.
@@ -79,6 +85,12 @@ pub fn get(bytes: &[u8], at: usize, width: usize) -> u64 {
 
 pub fn put(bytes: &mut [u8], at: usize, width: usize, number: u64) {
     bytes[at..at + width].copy_from_slice(&number.to_le_bytes()[..width]);
+}
+
+/// In how many places two pools of one length differ.
+pub fn differing(before: &[u8], after: &[u8]) -> usize {
+    assert_eq!(before.len(), after.len());
+    before.iter().zip(after).filter(|(old, new)| old != new).count()
 }
 
 /// The check, by the remainder at every byte.

@@ -1,5 +1,5 @@
 //! The library from C: the header, the example program, a program with two modules, and the boundary as Rust declares it.
-use linked::{Counts, Part, Recovery, RecoveryReply, Reply, Transaction};
+use linked::{Counts, Part, Recovery, RecoveryReply, Repaired, Reply, Transaction};
 use std::fmt::Write;
 use std::fs;
 use std::mem::{offset_of, size_of};
@@ -100,13 +100,14 @@ fn structs_and_numbers_are_the_same() {
     same.extend(layout!(pool_recovery_reply, RecoveryReply, kind, value, recovery));
     same.extend(layout!(pool_part, Part, refusal, offset, length));
     same.extend(layout!(pool_counts, Counts, refusal, objects, damaged, broken, columns));
+    same.extend(layout!(pool_repaired, Repaired, refusal, altered));
     let kinds = ["REFUSED", "ADDRESS", "TAKEN", "STARTED", "STORED", "BARRIER", "DONE"];
     let numbers = [linked::REFUSED, linked::ADDRESS, linked::TAKEN, linked::STARTED, linked::STORED, linked::BARRIER, linked::DONE];
     same.extend(kinds.into_iter().zip(numbers).map(|(kind, number)| (format!("POOL_{kind}"), number)));
     let header = fs::read_to_string(repository().join("include/pool.h")).unwrap();
     assert_eq!(header.matches("\n    POOL_REFUSED_").count(), REFUSALS.len());
     same.extend(REFUSALS.map(|(name, number)| (format!("POOL_REFUSED_{name}"), number)));
-    let limits = [("STAGING", 2032), ("BODY", 496), ("ENTRIES", 127), ("INTERFACE_VERSION", 2)];
+    let limits = [("STAGING", 2032), ("BODY", 496), ("ENTRIES", 127), ("INTERFACE_VERSION", 3)];
     same.extend(limits.map(|(name, number)| (format!("POOL_{name}"), number)));
     same.extend([("2, 2, 1", 6144), ("15, 64, 16", 4_198_912)].map(|(shape, length)| (format!("POOL_SIZE({shape})"), length)));
 
@@ -162,6 +163,7 @@ fn c_type(rust: &str) -> &'static str {
         "RecoveryReply" => "pool_recovery_reply",
         "Part" => "pool_part",
         "Counts" => "pool_counts",
+        "Repaired" => "pool_repaired",
         other => panic!("{other} is not a type of the boundary"),
     }
 }

@@ -4,17 +4,18 @@ use compare::calls::{compare, Answer, Call, Given};
 use compare::layout::{behind_body, fault, object_heads, objects, pool_id, pool_shape, put_headers, Fault, Shape, CELL, LARGEST, LOGS};
 use compare::random::Random;
 use compare::{layout, pools, requests, times};
+use linked::Repaired;
 use std::collections::{BTreeMap, BTreeSet};
 
 /// What each call can answer. `2` stands twice: "2 short" under 512 bytes, "2 length" after the headers. `25` stands for what is wrong with the
 /// object: "25 check"; "25 stray", bytes behind the body; "25 staged", such bytes in the entries alone. So does scrub's `0`: "0 stray" if it
-/// counted an object for such bytes alone.
+/// counted an object for such bytes alone. A repair's `0` altered no byte, its "0 altered" some.
 const ANSWERS: [(&str, &str); 15] = [
     ("format", "0, 1, 2 short, 2 length"),
     ("mend", "0, 2 short, 3, 4, 2 length"),
     ("look", "0, 2 short, 3, 4, 2 length, 21, 5, 23, 24, 25 check, 25 stray"),
     ("scrub", "0, 0 stray, 2 short, 3, 4, 2 length, 21"),
-    ("repair", "0, 2 short, 3, 4, 2 length, 21, 8, 28"),
+    ("repair", "0, 0 altered, 2 short, 3, 4, 2 length, 21, 8, 28"),
     ("begin", "taken, 2 short, 3, 4, 2 length, 21"),
     ("allocate", "address, 2 short, 3, 4, 2 length, 9, 10, 11, 29, 21, 6, 23, 26, 27"),
     ("write", "taken, 2 short, 3, 4, 2 length, 9, 10, 11, 29, 21, 5, 23, 24, 25 check, 25 stray, 25 staged, 7, 27"),
@@ -42,6 +43,7 @@ fn name(call: &Call, given: &Given, answer: Answer) -> String {
         (_, (2, _)) => if given.pool.len() < 512 { "2 short" } else { "2 length" }.to_string(),
         (_, (25, _)) => format!("25 {}", cause(call, given)),
         (Answer::Counts(counts), (0, _)) => counted(counts.damaged, &faults(&given.pool)).to_string(),
+        (Answer::Repaired(Repaired { refusal: 0, altered: 1.. }), _) => "0 altered".to_string(),
         (_, (0, Some(kind))) => KINDS[kind].to_string(),
         (_, (n, _)) => n.to_string(),
     }

@@ -1,13 +1,13 @@
 //! The functions of include/pool.h, one for one. The records are those of `reference`, which lie in memory as the C
 //! structs do.
-use reference::{Counts, Part, Recovery, RecoveryReply, Reply, Transaction};
+use reference::{Counts, Part, Recovery, RecoveryReply, Repaired, Reply, Transaction};
 
 extern "C" {
     pub fn pool_format(pool: *mut u8, pool_length: usize, rows: usize, cols: usize, zones: usize, id: u64) -> usize;
     pub fn pool_mend(pool: *mut u8, pool_length: usize) -> usize;
     pub fn pool_look(pool: *const u8, pool_length: usize, address: usize) -> Part;
     pub fn pool_scrub(pool: *const u8, pool_length: usize) -> Counts;
-    pub fn pool_repair(pool: *mut u8, pool_length: usize, lost: *const u16, lost_length: usize) -> usize;
+    pub fn pool_repair(pool: *mut u8, pool_length: usize, lost: *const u16, lost_length: usize) -> Repaired;
     pub fn pool_check(bytes: *const u8, length: usize) -> u32;
     pub fn pool_begin(pool: *const u8, pool_length: usize) -> Reply;
     pub fn pool_allocate(

@@ -6,7 +6,7 @@
 mod boundary;
 
 use boundary::*;
-pub use reference::{Counts, Part, Recovery, RecoveryReply, Reply, Transaction};
+pub use reference::{Counts, Part, Recovery, RecoveryReply, Repaired, Reply, Transaction};
 pub use reference::{ADDRESS, BARRIER, DONE, REFUSED, STARTED, STORED, TAKEN};
 
 /// The archive that is linked.
@@ -28,7 +28,7 @@ pub fn scrub(pool: &[u8]) -> Counts {
     unsafe { pool_scrub(pool.as_ptr(), pool.len()) }
 }
 
-pub fn repair(pool: &mut [u8], lost: &[u16]) -> usize {
+pub fn repair(pool: &mut [u8], lost: &[u16]) -> Repaired {
     unsafe { pool_repair(pool.as_mut_ptr(), pool.len(), lost.as_ptr(), lost.len()) }
 }
 

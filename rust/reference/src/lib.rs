@@ -1,6 +1,6 @@
-//! The object pool of document 01 in plain Rust, with requests A.2, A.4 and A.9 of document 02, written from the documents alone. Tests
-//! compare the proved library with it, and the benchmark measures it as the baseline. It allocates nothing and uses no
-//! unsafe code.
+//! The object pool of document 01 in plain Rust, with requests A.2, A.4, A.8 and A.9 of document 02, written from the documents alone.
+//! Tests compare the proved library with it, and the benchmark measures it as the baseline. It allocates nothing and uses
+//! no unsafe code.
 
 #![forbid(unsafe_code)]
 

@@ -2,7 +2,7 @@
 
 use crate::header::{header, open_unsealed};
 use crate::layout::{put_word, Shape, PAGE, WORD};
-use crate::records::Counts;
+use crate::records::{Counts, Repaired};
 use crate::refusal::{LENGTH, LOSS_LIST, SHAPE, TWO_LOST};
 use crate::runs::{is_damaged, walk, Head};
 
@@ -46,20 +46,31 @@ fn column_sum(pool: &[u8], shape: Shape, zone: usize, column: usize, without: u1
     sum
 }
 
-/// Each lost page becomes the exclusive or of the column's others; all other bytes stay: 2, 3, 4, 2, 21, 8, 28.
-pub fn repair(pool: &mut [u8], lost: &[u16]) -> usize {
+/// In how many places two pages differ. A byte counts those of half a page.
+fn differing(before: &[u8], after: &[u8]) -> usize {
+    let differs = |(before, after): (&u8, &u8)| u8::from(before != after);
+    let halves = before.chunks_exact(PAGE / 2).zip(after.chunks_exact(PAGE / 2));
+    halves.map(|(before, after)| usize::from(before.iter().zip(after).map(differs).sum::<u8>())).sum()
+}
+
+/// Each lost page becomes the exclusive or of the column's others; all other bytes stay. Answers how many bytes of the pool
+/// differ from before. Refusals 2, 3, 4, 2, 21, 8, 28.
+pub fn repair(pool: &mut [u8], lost: &[u16]) -> Repaired {
+    let mut repaired = Repaired { refusal: 0, altered: 0 };
     let shape = match may_repair(pool, lost) {
         Ok(shape) => shape,
-        Err(refusal) => return refusal,
+        Err(refusal) => return Repaired { refusal, ..repaired },
     };
     for (i, &mask) in lost.iter().enumerate().filter(|(_, &mask)| mask != 0) {
         let (zone, column) = (i / shape.cols, i % shape.cols);
         let sum = column_sum(pool, shape, zone, column, mask);
         let row = mask.trailing_zeros() as usize;
-        pool[page(shape, zone, column, row)..][..PAGE].copy_from_slice(&sum);
+        let page = &mut pool[page(shape, zone, column, row)..][..PAGE];
+        repaired.altered += differing(page, &sum);
+        page.copy_from_slice(&sum);
         debug_assert_eq!(column_sum(pool, shape, zone, column, 0), [0; PAGE], "parity is right");
     }
-    0
+    repaired
 }
 
 fn may_repair(pool: &[u8], lost: &[u16]) -> Result<Shape, usize> {

@@ -56,6 +56,14 @@ pub struct Counts {
     pub columns: usize,
 }
 
+/// How many bytes of the pool repair altered. If refused, altered is 0.
+#[repr(C)]
+#[derive(Clone, Copy, Debug, PartialEq, Eq)]
+pub struct Repaired {
+    pub refusal: usize,
+    pub altered: usize,
+}
+
 // The kinds of a reply; its value is
 pub const REFUSED: usize = 0; // the refusal's number
 pub const ADDRESS: usize = 1; // the address of the object allocated

@@ -216,12 +216,12 @@ fn lost_pages() {
     for row in 0..3 {
         let mut damaged = pool.clone();
         damaged[FIRST_CELL + row * 512..][..256].fill(0xAA);
-        assert_eq!(repair(&mut damaged, &[1 << row, 0]), 0);
+        assert_eq!(repair(&mut damaged, &[1 << row, 0]), Repaired { refusal: 0, altered: 256 });
         assert_eq!(damaged, pool);
     }
     let mut copy = pool.clone();
-    assert_eq!(repair(&mut copy, &[5, 0]), 28);
-    assert_eq!(repair(&mut copy, &[5, 8]), 8);
-    assert_eq!(repair(&mut copy, &[4]), 8);
-    assert_eq!(copy, pool);
+    for (lost, refusal) in [(&[5, 0][..], 28), (&[5, 8], 8), (&[4], 8)] {
+        assert_eq!(repair(&mut copy, lost), Repaired { refusal, altered: 0 });
+        assert_eq!(copy, pool);
+    }
 }

@@ -162,7 +162,7 @@ fn seals() {
     let started = commit(t, &whole, &staging).transaction;
     whole[2 * 256] = 1;
     assert_eq!(look(&whole, 99).refusal, 21);
-    assert_eq!(repair(&mut whole, &[]), 21);
+    assert_eq!(repair(&mut whole, &[]), Repaired { refusal: 21, altered: 0 });
     assert_eq!(allocate(t, &whole, &mut staging, 0, &[]), refused(t, 21));
     assert_eq!(commit_step(started, &mut whole, &staging), refused(started, 21));
     let r = recover(&whole).recovery;

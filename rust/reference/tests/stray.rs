@@ -97,13 +97,13 @@ fn repaired() {
         let mut pool = whole.clone();
         pool[at] = 1;
         let mut agreed = pool.clone();
-        assert_eq!(repair(&mut pool, &[1, 0]), 0);
+        assert_eq!(repair(&mut pool, &[1, 0]), Repaired { refusal: 0, altered: 1 });
         assert_eq!(pool, whole);
         assert_eq!(counts(&pool), [1, 0, 0, 0]);
         agreed[at + 1_024] ^= 1;
         let before = agreed.clone();
         assert_eq!(counts(&agreed), [1, 1, 0, 0]);
-        assert_eq!(repair(&mut agreed, &[1, 0]), 0);
+        assert_eq!(repair(&mut agreed, &[1, 0]), Repaired { refusal: 0, altered: 0 });
         assert_eq!(agreed, before);
         assert_eq!(answers_unstaged(&agreed), [25; 3]);
     }

@@ -5,17 +5,16 @@ use mathlib.Core.Bool.{Bool, true, false, not}
 use mathlib.Core.Option.{Option, none, some}
 use mathlib.Core.List.{List, _++_}
 use native.Mathlib.Omega.{arith}
-use lib.Dec.{eqb}
 use lib.ListN.{length, take}
-use borrow.Author.Tests.{eq-eqb, eqb-true, le-ltb, lt-ltb, ltb-false, ne-eqb}
+use borrow.Author.Tests.{eq-eqb, le-ltb, lt-ltb, ltb-false, ne-eqb}
 use Rattle.rules.specs.Shape.{Shape as PoolShape, pageSize, poolSize, zonesAt}
 use Rattle.rules.specs.Test.{Test, first}
 use Rattle.rules.specs.Header.{differing, headerId, headerOk, headerShape, idIn, inRange, letters, openTests, pageAt, same, shapeIn, validHeader}
 use Rattle.rules.proofs.Bool.{split}
 use Rattle.rules.proofs.Chain.{and-stop}
 use Rattle.rules.proofs.Shape.{Good as GoodShape}
-use Rattle.rules.proofs.Test.{Passed, first-passed, not-not, passed-first, passed-left}
-use Rattle.rules.proofs.Header.{passed-range, same-eq}
+use Rattle.rules.proofs.Test.{Passed, first-passed, passed-first, passed-left}
+use Rattle.rules.proofs.Header.{passed-length, passed-range, same-eq}
 use Rattle.layout.specs.declared.Shape.{Shape}
 use Rattle.layout.specs.declared.Opened.{Opened}
 use Rattle.layout.specs.declared.Opened.the-variants.{Good, Refused}
@@ -104,10 +103,6 @@ pub answer-refused : (o : Option ℕ) (sh : PoolShape) (n : ℕ) → answer o sh
 unfolding answer
 answer-refused none sh n e = absurd (let z : _≡_ {A = ℕ} 0 1 = cc in omega arith)
 answer-refused (some m) sh n e = cc
-
-passed-length : (p : List ℕ) → Passed (openTests p) → length p ≡ poolSize (shapeIn p)
-unfolding openTests
-passed-length p o = eqb-true (length p) (poolSize (shapeIn p)) (not-not (eqb (length p) (poolSize (shapeIn p))) (o .1 .1 .1 .0))
 
 module _ (p : List ℕ) where
   pub open-passed : (s : Shape) → opened p ≡ Good s → Passed (openTests p)

@@ -31,11 +31,13 @@ use Rattle.rules.specs.Repair.{altered, anyAbove, anyTwo, concludeRepair
 use Rattle.rules.specs.Mend.{mendHeader, mended}
 use Rattle.rules.specs.Scrub.{allTo, brokenZones, columnRight, concludeScrub, countRuns, countTo, damagedMet, objectsMet, refused as scrubRefused, scrub, sumTo, wrongColumns}
 use Rattle.rules.specs.Format.{formatTests, freshPool, freshZone, freshZones}
+use Rattle.rules.specs.Sound.{bookOf}
+use Rattle.rules.specs.Tag.{absent, at, concludeLookUp, firstFrom, firstTagged, found as lookedUp, lookUp, lookUpTests, refused as lookUpRefused, wholeTest, withTag}
 use Rattle.rules.specs.Scan.{brokenLine, columnsLine, concludeScan, decimal, decimalTo, poolLine, poolText, poolscan, quality, runLine, runText, scanTests, zoneLines, zonesText}
 
 -- Each definition of the rules that computes, opened at once.
 opened : Unit {0}
-unfolding number digits field word put reduced low high check updated poolSize zoneCells zoneAt byteAt zone row off rowAt first same within inRange headerFront headerBytes pageAt headerShape headerId headerOk validHeader shapeIn idIn differing openTests cellsFor freeOk objectOk allZero goodIn runOf readRun fits checkRun nextRun onward walk zoneWalk headBytes freeHead objectBytes checkWord book enter strike overwrite find fit runAt joined zoneData walkIn runsFrom bookFrom poolBook allGood goodFrom runThere isObject isDamaged bodyOf headAt objectTests unsealed readTests touch touchWords wordFrom wordCount touchRange isLive commitLength pastCommit impossible conclude concludePool fitIn search fitTest fitAddress touchFree touchObject touchWrite joinedAt touchJoined plan entriesIn concludeStart transactionStart recordTests liveTests callTests staged call calls begun onAddress onTaken newBook newBooks xorTo parityWord tabFrom repaired anyAbove anyTwo repairTests differences concludeRepair repair mended countRuns countTo allTo sumTo columnRight wrongColumns brokenZones objectsMet damagedMet freshZone freshZones freshPool formatTests decimalTo decimal quality runText runLine brokenLine zoneLines zonesText poolLine columnsLine poolText scanTests concludeScan poolscan lookTests concludeLook look seen mendHeader concludeScrub scrub ones onesIn
+unfolding number digits field word put reduced low high check updated poolSize zoneCells zoneAt byteAt zone row off rowAt first same within inRange headerFront headerBytes pageAt headerShape headerId headerOk validHeader shapeIn idIn differing openTests cellsFor freeOk objectOk allZero goodIn runOf readRun fits checkRun nextRun onward walk zoneWalk headBytes freeHead objectBytes checkWord book enter strike overwrite find fit runAt joined zoneData walkIn runsFrom bookFrom poolBook allGood goodFrom runThere isObject isDamaged bodyOf headAt objectTests unsealed readTests touch touchWords wordFrom wordCount touchRange isLive commitLength pastCommit impossible conclude concludePool fitIn search fitTest fitAddress touchFree touchObject touchWrite joinedAt touchJoined plan entriesIn concludeStart transactionStart recordTests liveTests callTests staged call calls begun onAddress onTaken newBook newBooks xorTo parityWord tabFrom repaired anyAbove anyTwo repairTests differences concludeRepair repair mended countRuns countTo allTo sumTo columnRight wrongColumns brokenZones objectsMet damagedMet freshZone freshZones freshPool formatTests decimalTo decimal quality runText runLine brokenLine zoneLines zonesText poolLine columnsLine poolText scanTests concludeScan poolscan lookTests concludeLook look seen mendHeader concludeScrub scrub bookOf withTag firstFrom firstTagged wholeTest lookUpTests lookedUp concludeLookUp lookUp ones onesIn
 opened = tt
 
 abbrev shape : ℕ → ℕ → ℕ → ℕ → Shape
@@ -708,6 +710,33 @@ pub newBooks-is :
     newBooks (allocate 9 (ascii "x") ∷ release 2 ∷ write 4 0 (ascii "y") ∷ []) (address 4 ∷ taken ∷ taken ∷ []) books ≡ listed 4 9 (ascii "y") ∷ listed 6 7 (ascii "abc") ∷ []
 unfolding opened
 newBooks-is = refl
+
+-- ---- The look-up by tag (A.1)
+
+abbrev tagged : List Listed
+tagged = books ++ (listed 8 5 (ascii "d") ∷ listed 11 5 (ascii "e") ∷ [])
+
+pub withTag-is :
+    (withTag 5 tagged ≡ listed 2 5 (ascii "abc") ∷ listed 8 5 (ascii "d") ∷ listed 11 5 (ascii "e") ∷ [])
+    × (withTag 7 tagged ≡ listed 6 7 (ascii "abc") ∷ []) × (withTag 6 tagged ≡ [])
+unfolding opened
+withTag-is = (refl, refl, refl)
+
+-- The lowest address at or above: from 0; from that very address; from the one behind it; from the last; from behind the last. No such tag.
+pub firstTagged-is :
+    (firstTagged 5 0 tagged ≡ some 2) × (firstTagged 5 2 tagged ≡ some 2) × (firstTagged 5 3 tagged ≡ some 8) × (firstTagged 5 11 tagged ≡ some 11)
+    × (firstTagged 5 12 tagged ≡ none) × (firstTagged 6 0 tagged ≡ none)
+unfolding opened
+firstTagged-is = (refl, refl, refl, refl, refl, refl)
+
+-- Damage hides no tag. A break is met though it stands behind the object; a seal, and bytes that are no pool.
+pub lookUp-is :
+    (lookUp objectPool 5 0 ≡ at 3) × (lookUp objectPool 5 3 ≡ at 3) × (lookUp objectPool 5 4 ≡ absent) × (lookUp objectPool 7 0 ≡ absent)
+    × (lookUp (set objectPool 4816 0) 5 0 ≡ at 3)
+    × (lookUp (headerBytes smallest 1 ++ (headerBytes smallest 1 ++ (replicate 4096 0 ++ (objectA ++ replicate 448 0)))) 5 0 ≡ lookUpRefused 23)
+    × (lookUp (set objectPool 512 1) 5 0 ≡ lookUpRefused 21) × (lookUp [] 5 0 ≡ lookUpRefused 2)
+unfolding opened
+lookUp-is = (refl, refl, refl, refl, refl, refl, refl, refl)
 
 -- ==== Repair and scrub
 

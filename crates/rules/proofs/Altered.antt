@@ -22,12 +22,12 @@ use Rattle.rules.specs.Scrub.{sumTo}
 use Rattle.rules.specs.Repair.{Repaired, altered, anyTwo, bit, concludeRepair, differences, lost, rebuilt, repair, repairTests, repaired}
 use Rattle.rules.proofs.Bool.{split}
 use Rattle.rules.proofs.Sums.{sum-add, sum-cong, sum-le, sum-mul, sum-one, sum-swap, zero-sum}
-use Rattle.rules.proofs.Test.{Passed, first-passed, not-not, passed-left, passed-right}
+use Rattle.rules.proofs.Test.{Passed, first-passed, passed-left, passed-right}
 use Rattle.rules.proofs.Parts.{part-ext}
 use Rattle.rules.proofs.Differences.{differences-most, differences-none, differences-same, differences-take}
 use Rattle.rules.proofs.Shape.{Good, cell-high, cell-low, column-cell, row-cell, size-eq}
 use Rattle.rules.proofs.Repair.{bit-unique, rebuilt-same, repaired-at, repaired-length}
-use Rattle.rules.proofs.Header.{front-headers, front-reads, passed-good, shape-same}
+use Rattle.rules.proofs.Header.{front-headers, front-reads, passed-good, passed-length, shape-same}
 use Rattle.rules.proofs.Sound.{single-bits}
 
 -- ---- the differing bytes, page by page
@@ -185,8 +185,7 @@ module _ (p ms : List ℕ) (n : ℕ) (e : repair p ms .answer ≡ altered n) whe
   good = passed-good p opens
 
   whole : length p ≡ poolSize (shapeIn p)
-  unfolding openTests
-  whole = eqb-true (length p) (poolSize (shapeIn p)) (not-not _ (opens .1 .1 .1 .0))
+  whole = passed-length p opens
 
   single : anyTwo ms ≡ false
   unfolding repairTests

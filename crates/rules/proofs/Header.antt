@@ -128,6 +128,10 @@ pub passed-range : (p : List ℕ) → Passed (openTests p) → inRange (shapeIn 
 unfolding shapeIn
 passed-range p o = header-range (headerIn p) (passed-valid p o)
 
+pub passed-length : (p : List ℕ) → Passed (openTests p) → length p ≡ poolSize (shapeIn p)
+unfolding openTests
+passed-length p o = eqb-true (length p) (poolSize (shapeIn p)) (not-not (eqb (length p) (poolSize (shapeIn p))) (o .1 .1 .1 .0))
+
 -- NO POOL THAT OPENS HAS ID 0
 header-id : (h : List ℕ) → headerOk h ≡ true → headerId h ≢ 0
 unfolding headerOk

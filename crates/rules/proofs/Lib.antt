@@ -40,3 +40,7 @@ pub mod Altered
 pub mod Scan
 pub mod ScanExample
 pub mod Mend
+pub mod Ascending
+pub mod Tag
+pub mod Taken
+pub mod LookUp

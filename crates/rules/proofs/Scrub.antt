@@ -130,7 +130,7 @@ module _ (sh : Shape) (p : List ℕ) where
       and-join (walkIn sh p z .whole) _ (w z (omega arith) (omega arith))
       (and-join (allGood (walkIn sh p z .runs)) (goodFrom sh p (suc z) n) (good-count (walkIn sh p z .runs) (omega arith)) (scrub-from n (suc z) (λ y a b. w y (omega arith) (omega arith)) (omega arith)))
 
-  from-scrub : (n z : ℕ) → goodFrom sh p z n ≡ true → ((y : ℕ) → z ≤ y → y < z + n → walkIn sh p y .whole ≡ true) × (countRuns (λ r. not (isGood r)) (runsFrom sh p z n) ≡ 0)
+  pub from-scrub : (n z : ℕ) → goodFrom sh p z n ≡ true → ((y : ℕ) → z ≤ y → y < z + n → walkIn sh p y .whole ≡ true) × (countRuns (λ r. not (isGood r)) (runsFrom sh p z n) ≡ 0)
   unfolding goodFrom runsFrom countRuns
   from-scrub zero z e = (λ y a b. absurd (omega arith), refl)
   from-scrub (suc n) z e =

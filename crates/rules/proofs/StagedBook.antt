@@ -28,6 +28,11 @@ unfolding allGood
 of-good [] g = refl
 of-good (r ∷ rs) g = and-join (isGood r) (allGood rs) (g .0) (of-good rs (g .1))
 
+-- the bytes of a zone that is not broken
+pub whole-laid : (s : Shape) (v : List ℕ) (z : ℕ) → walkIn s v z .whole ≡ true → Laid false (walkIn s v z .runs) (zoneData s v z)
+unfolding walkIn
+whole-laid s v z p = zone-laid (walkIn s v z .runs) (zoneData s v z) (λ i. record { runs = walkIn s v z .runs; whole = p i })
+
 -- the runs of n zones from zone z on
 zoneLists : Shape → List ℕ → ℕ → ℕ → List (List Run)
 zoneLists s v z zero = []
@@ -40,10 +45,7 @@ sound-zones s v z (suc n) e =
     let a = and-split (walkIn s v z .whole) (allGood (walkIn s v z .runs) && goodFrom s v (suc z) n) e in
     let b = and-split (allGood (walkIn s v z .runs)) (goodFrom s v (suc z) n) (a .1) in
     let i = sound-zones s v (suc z) n (b .1) in
-    ((whole-laid (a .0), good-of (walkIn s v z .runs) (b .0), i .0), ap suc (i .1))
-  where
-    whole-laid : walkIn s v z .whole ≡ true → Laid false (walkIn s v z .runs) (zoneData s v z)
-    whole-laid p = unfold walkIn in (zone-laid (walkIn s v z .runs) (zoneData s v z) (λ i. record { runs = walkIn s v z .runs; whole = p i }))
+    ((whole-laid s v z (a .0), good-of (walkIn s v z .runs) (b .0), i .0), ap suc (i .1))
 
 -- zones whose bytes are good runs are good, and their objects stand at zone × cells of a zone + cell
 zones-sound : (s : Shape) (v : List ℕ) (z : ℕ) (rss : List (List Run)) → Fits s v → z + length rss ≤ s .zones → Zones s v z rss

@@ -21,3 +21,4 @@ pub mod Mend
 pub mod Scrub
 pub mod Format
 pub mod Scan
+pub mod Tag

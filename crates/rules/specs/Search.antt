@@ -1,6 +1,6 @@
 -- Looking through the runs of one zone (01, "Transactions"); c is the first run's first cell. Assumes nothing.
 use Prim.Native.Nat.{ℕ, _+_, _-_}
-use mathlib.Core.Bool.{cond}
+use mathlib.Core.Bool.{Bool, false, cond, _||_}
 use mathlib.Core.Option.{Option, none, some}
 use mathlib.Core.List.{List, [], _∷_}
 use lib.Dec.{leb, eqb}
@@ -36,3 +36,8 @@ unfoldable pub joined : ℕ → ℕ → ℕ → List Run → Place
 joined a p c [] = record { cell = 0; count = 0 }
 joined a p c (r ∷ rs) =
     cond (eqb c a) (record { cell = c - p; count = p + (cells r + lead rs) }) (joined a (freeCells r) (c + cells r) rs)
+
+-- Some run is free and has k cells at least.
+unfoldable pub anyFree : ℕ → List Run → Bool
+anyFree k [] = false
+anyFree k (r ∷ rs) = leb k (freeCells r) || anyFree k rs

@@ -24,3 +24,4 @@ pub mod RunOn
 pub mod Committed
 pub mod Requirements
 pub mod OwnPool
+pub mod History

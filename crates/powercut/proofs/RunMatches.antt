@@ -18,7 +18,7 @@ use Rattle.rules.specs.Seals.{unsealed}
 use Rattle.rules.specs.Staging.{Phase, Store, Tidy, Transaction, closed, commitLength, committing, entriesAt, goodTargets, isLive, live, withPhase}
 use Rattle.rules.specs.Answer.{After, Given, conclude, isRefused}
 use Rattle.rules.specs.Plan.{Call}
-use Rattle.rules.specs.Calls.{AllTyped, begun, entriesIn, liveTests, recordTests}
+use Rattle.rules.specs.Calls.{AllTyped, begun, call, entriesIn, liveTests, recordTests}
 use Rattle.rules.specs.Sound.{Sound, bookOf}
 use Rattle.rules.proofs.Bool.{and-split, or-false, split}
 use Rattle.rules.proofs.Test.{Passed, first-passed, not-not, passed-left, passed-right}
@@ -27,6 +27,7 @@ use Rattle.rules.proofs.Held.{Held}
 use Rattle.rules.proofs.Header.{SameHeaders, id-same, page-is, same-headers, shape-same, sound-good, sound-long, sound-opens, tests-same}
 use Rattle.rules.proofs.Transaction.{Kept, calls-kept, calls-pool, entries-count, targets-good}
 use Rattle.rules.proofs.Sound.{begun-kept, sound-fits}
+use Rattle.rules.proofs.Taken.{planIn}
 use Rattle.powercut.specs.Steps.{Remedy, Step, barrier, clear, commitSteps, neither, nothing, recoverySteps, remedy, replay}
 use Rattle.powercut.specs.Power.{State, act, view}
 use Rattle.powercut.specs.Commit.{commitList, commitNext, commitStart, commitStep, commitTests, isCommitting, nextPhase, placeIn, startPhase}
@@ -48,6 +49,11 @@ accepted-none g (some n) a f = absurd (let z : _≡_ {A = ℕ} 0 1 = cc in omega
 pub concluded : (g : Given) (r : Option ℕ) (a : After) → Accepted (conclude g r a .answer) → conclude g r a ≡ a
 unfolding conclude
 concluded g r a f = ap (λ (o : Option ℕ). conclude g o a) (accepted-none g r a f)
+
+-- a call that is not refused answers as its plan
+pub call-answer : (g : Given) (k : Call) → Accepted (call g k .answer) → call g k .answer ≡ planIn g k .answer
+unfolding call
+call-answer g k f = ap (λ (x : After). x .answer) (concluded g _ _ f)
 
 accepted-recovery-none : (p : List ℕ) (x : Recovery) (r : Option ℕ) (a : RecoveryAfter) → Accepted (concludeRecovery p x r a .answer) → r ≡ none
 unfolding concludeRecovery isRefused

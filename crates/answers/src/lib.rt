@@ -1,6 +1,7 @@
 // What the calls on a transaction and on a recovery answer, an answer as two numbers, its kind and its value, and what a call that stages
 // words leaves.
 ghost use mathlib.Core.Path.{_≡_};
+ghost use Rattle.rules.specs.Answer.{isRefused};
 ghost use Rattle.answers.specs.Meaning.{answerOf, kindOf, valueOf};
 
 // 01 numbers the steps of a commit or of a recovery from 1.
@@ -45,6 +46,13 @@ pub fn kind(answer: Answer) -> usize
         Answer::Barrier(_) => Answer::BARRIER,
         Answer::Done(_) => Answer::DONE,
     }
+}
+
+// Whether an answer is a refusal.
+pub fn is_refused(answer: Answer) -> bool
+    ensures { λ r. ⌜ r ≡ isRefused (answerOf answer) ⌝ }
+{
+    kind(answer) == Answer::REFUSED
 }
 
 // The refusal, the address or the number of the step; 0 where there is none.

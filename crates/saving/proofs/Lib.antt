@@ -3,6 +3,5 @@ pub mod AnswerKinds
 pub mod Saving
 pub mod Uncut
 pub mod Saved
-pub mod Ascending
 pub mod TakenBack
 pub mod Recovering

@@ -24,7 +24,7 @@ use Rattle.transaction.specs.Meaning.{afterOf, givenOf, startOf}
 use Rattle.saving.specs.Meaning.{outcomeOf}
 use Rattle.saving.specs.Saving.{Outcome, Saves, Told, committed, isDone, saveOn, saved, savedAs}
 use Rattle.saving.proofs.Uncut.{Ended, commit-ends}
-use Rattle.powercut.proofs.RunMatches.{accepted-none, concluded}
+use Rattle.powercut.proofs.RunMatches.{accepted-none, call-answer}
 use Rattle.powercut.proofs.PowerCut.{power-cut}
 use Rattle.powercut.proofs.Refusals.{refused-is}
 
@@ -68,8 +68,8 @@ accepted-room g k f =
     omega (arith, ltb-false, p .0)
 
 pub allocate-address : (g : Given) (t : ℕ) (b : List ℕ) → isRefused (call g (allocate t b) .answer) ≡ false → (a : ℕ) × (call g (allocate t b) .answer ≡ address a)
-unfolding call plan
-allocate-address g t b f = (_, ap (λ (x : After). x .answer) (concluded g _ _ f))
+unfolding plan
+allocate-address g t b f = (_, call-answer g (allocate t b) f)
 
 told-refused : (old : List ℕ) (tag : ℕ) (body new : List ℕ) (a : Answer) → isRefused a ≡ true → new ≡ old → Told old tag body new a
 told-refused old tag body new a r e = subst (Told old tag body new) (sym (refused-is a r .1)) e

@@ -13,19 +13,19 @@ use Rattle.rules.specs.NewBook.{newBook, newBooks, onAddress, onTaken}
 use Rattle.rules.specs.Sound.{Sound, bookOf}
 use Rattle.rules.proofs.Bool.{split}
 use Rattle.rules.proofs.Sound.{sound-fits}
+use Rattle.rules.proofs.Ascending.{Ascends, held-ascends, strike-entered}
 use Rattle.powercut.specs.WholeRun.{entries, made}
 use Rattle.powercut.specs.Claim.{new}
-use Rattle.powercut.proofs.RunMatches.{concluded, held}
+use Rattle.powercut.proofs.RunMatches.{call-answer, held}
 use Rattle.answers.specs.Meaning.{answerOf}
 use Rattle.transaction.specs.declared.Reply.{Reply}
 use Rattle.transaction.specs.Meaning.{afterOf, givenOf}
 use Rattle.saving.specs.TakenBack.{TakesBack, addressIn, both, freeOn, takenBack}
 use Rattle.saving.proofs.Saved.{Allocated, Begun, allocate-address, begun-told, made-new, sound-begins}
-use Rattle.saving.proofs.Ascending.{Ascends, held-ascends, strike-entered}
 
 free-taken : (g : Given) (a : ℕ) → isRefused (call g (release a) .answer) ≡ false → call g (release a) .answer ≡ taken
-unfolding call plan
-free-taken g a f = ap (λ (x : After). x .answer) (concluded g _ _ f)
+unfolding plan
+free-taken g a f = call-answer g (release a) f
 
 address-is : (x : Answer) (a : ℕ) → x ≡ address a → addressIn x ≡ a
 unfolding addressIn

@@ -1,7 +1,6 @@
 // Callers of the transaction's and the recovery's calls, proved from the contracts of these alone: a commit made step after step or part after part, an object
 // saved, one allocated and freed again, and a recovery driven to its end. No function has a `requires`.
 ghost use mathlib.Core.Path.{_≡_};
-ghost use Rattle.rules.specs.Answer.{isRefused};
 ghost use Rattle.answers.specs.Meaning.{answerOf};
 ghost use Rattle.transaction.specs.Meaning.{afterOf, givenOf};
 ghost use Rattle.recovery.specs.Meaning.{afterOf as recoveredOf};
@@ -11,6 +10,7 @@ ghost use Rattle.saving.specs.Meaning.{outcomeOf};
 ghost use Rattle.saving.specs.TakenBack.{addressIn, TakesBack};
 ghost use Rattle.saving.specs.Recovering.{Recovers};
 use answers::Answer;
+use answers::is_refused;
 use answers::kind;
 use answers::value;
 use recovery::Recovery;
@@ -21,12 +21,6 @@ fn is_done(answer: Answer) -> bool
     ensures { λ r. ⌜ r ≡ isDone (answerOf answer) ⌝ }
 {
     kind(answer) == Answer::DONE
-}
-
-fn is_refused(answer: Answer) -> bool
-    ensures { λ r. ⌜ r ≡ isRefused (answerOf answer) ⌝ }
-{
-    kind(answer) == Answer::REFUSED
 }
 
 // Whether this answer ends a commit or a recovery.

@@ -1,9 +1,9 @@
--- `saving::is_refused` meets its contract. Assumes nothing.
-use Rattle.saving.proofs.AnswerKinds.{refused-kind}
+-- `answers::is_refused` meets its contract. Assumes nothing.
+use Rattle.answers.proofs.AnswerKinds.{refused-kind}
 use native.Mathlib.Omega.{arith}
 use borrow.Author.Needs.{needs}
-use Rattle.saving.proofs.is_refused.Statement.{statement}
-use Rattle.saving.proofs.is_refused.Tie as tie
+use Rattle.answers.proofs.is_refused.Statement.{statement}
+use Rattle.answers.proofs.is_refused.Tie as tie
 
 returns : tie.Need-returns
 returns c = refused-kind _ (c .kind .ensures) _ (omega arith)

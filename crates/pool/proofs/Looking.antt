@@ -35,35 +35,35 @@ module _ (p : List ℕ) where
   look-refused n a e =
       rw (first-left (readTests p) (objectTests (shapeIn p) p a) n (answer-refused (first (readTests p)) (shapeIn p) n e))
 
--- ---- what look answers
+-- ---- what a body tells of the look x that it means: one of look's, or of a caller's above
 
-module _ (p : List ℕ) (a : ℕ) (r : Body) (e : lookOf r ≡ look p a) where
-  look-part : (at n : ℕ) → r ≡ At at n → look p a ≡ part at n
+module _ (x : Look) (r : Body) (e : lookOf r ≡ x) where
+  look-part : (at n : ℕ) → r ≡ At at n → x ≡ part at n
   look-part at n q = sym e ∙ ap lookOf q
 
-  look-none : (n : ℕ) → r ≡ Refused n → look p a ≡ refused n
+  look-none : (n : ℕ) → r ≡ Refused n → x ≡ refused n
   look-none n q = sym e ∙ ap lookOf q
 
-  pub look-number : (n : ℕ) → r ≡ Refused n → n ≡ refusalOf (look p a)
+  pub look-number : (n : ℕ) → r ≡ Refused n → n ≡ refusalOf x
   unfolding refusalOf
   look-number n q = rw (look-none n q)
 
-  pub look-zero : (at n : ℕ) → r ≡ At at n → 0 ≡ refusalOf (look p a)
+  pub look-zero : (at n : ℕ) → r ≡ At at n → 0 ≡ refusalOf x
   unfolding refusalOf
   look-zero at n q = rw (look-part at n q)
 
-  pub look-bytes : (at n : ℕ) → r ≡ At at n → take (at + n - at) (drop at p) ≡ seen p (look p a)
+  pub look-bytes : (p : List ℕ) (at n : ℕ) → r ≡ At at n → take (at + n - at) (drop at p) ≡ seen p x
   unfolding seen
-  look-bytes at n q = rw (look-part at n q, add-sub-cancel-left at n)
+  look-bytes p at n q = rw (look-part at n q, add-sub-cancel-left at n)
 
-  pub look-empty : (n : ℕ) → r ≡ Refused n → [] ≡ seen p (look p a)
+  pub look-empty : (p : List ℕ) (n : ℕ) → r ≡ Refused n → [] ≡ seen p x
   unfolding seen
-  look-empty n q = rw (look-none n q)
+  look-empty p n q = rw (look-none n q)
 
-  pub look-same : (at n i m : ℕ) → r ≡ At at n → look p a ≡ part i m → at ≡ i
+  pub look-same : (at n i m : ℕ) → r ≡ At at n → x ≡ part i m → at ≡ i
   look-same at n i m q h = let k = look-part at n q in let z : part at n ≡ part i m = sym k ∙ h in cc
 
-  pub look-other : (n i m : ℕ) → r ≡ Refused n → look p a ≡ part i m → ⊥
+  pub look-other : (n i m : ℕ) → r ≡ Refused n → x ≡ part i m → ⊥
   look-other n i m q h = let k = look-none n q in let z : _≡_ {A = ℕ} 0 1 = cc in omega arith
 
 pub look-room : (p : List ℕ) (r : Body) (at n : ℕ) → Within p r → r ≡ At at n → at + n ≤ length p

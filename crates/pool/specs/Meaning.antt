@@ -5,6 +5,9 @@ use Rattle.rules.specs.Answer.{Answer, Changed, refused, taken}
 use Rattle.rules.specs.Look as Looking
 use Rattle.rules.specs.Repair as Repairing
 use Rattle.rules.specs.Scrub as Scrubbing
+use Rattle.rules.specs.Tag as Tagging
+use Rattle.pool.specs.declared.Found.{Found}
+use Rattle.pool.specs.declared.Found.the-variants as Finding
 use Rattle.pool.specs.declared.Outcome.{Outcome}
 use Rattle.pool.specs.declared.Outcome.the-variants.{Refused, Taken}
 use Rattle.pool.specs.declared.Repaired.{Repaired}
@@ -33,6 +36,12 @@ repairedOf r pool = record { answer = repairOf r; pool = pool }
 unfoldable pub refusalOf : Looking.Look → ℕ
 refusalOf (Looking.part at n) = 0
 refusalOf (Looking.refused n) = n
+
+-- The address of the object with a tag, that there is none, or the refusal.
+abbrev pub lookUpOf : Found → Tagging.LookUp
+lookUpOf (Finding.At a) = Tagging.at a
+lookUpOf Finding.Absent = Tagging.absent
+lookUpOf (Finding.Refused n) = Tagging.refused n
 
 -- Scrub's four counts, or its refusal.
 abbrev pub scrubOf : Scrubbed → Scrubbing.Scrub

@@ -9,13 +9,15 @@ ghost use Rattle.rules.specs.Mend.{mended, mendHeader};
 ghost use Rattle.rules.specs.Repair.{repair as repairCall};
 ghost use Rattle.rules.specs.Look.{look as looked, part, seen};
 ghost use Rattle.rules.specs.Scrub.{scrub as scrubbed};
+ghost use Rattle.rules.specs.Tag.{lookUp};
 ghost use Rattle.layout.specs.Meaning.{InRange, Shaped, shapeOf};
 ghost use Rattle.zones.specs.Body.{lookOf, Within};
 ghost use Rattle.pool.specs.Fill.{headsFrom};
-ghost use Rattle.pool.specs.Meaning.{changed, refusalOf, repairedOf, scrubOf};
+ghost use Rattle.pool.specs.Meaning.{changed, lookUpOf, refusalOf, repairedOf, scrubOf};
 use layout::Made;
 use layout::Opened;
 use layout::Shape;
+use tags::Hit;
 use zones::Body;
 
 // What format and header mending answer.
@@ -33,6 +35,13 @@ pub enum Repaired {
 // What scrub answers: objects met, damaged ones, broken zones, columns with wrong parity; or a refusal's number.
 pub enum Scrubbed {
     Counts(usize, usize, usize, usize),
+    Refused(u8),
+}
+
+// What the look-up by tag answers: an address; no object with this tag; or a refusal's number.
+pub enum Found {
+    At(usize),
+    Absent,
     Refused(u8),
 }
 
@@ -162,6 +171,20 @@ pub fn look(pool: &[u8], address: usize) -> &[u8]
     match look_for(pool, address) {
         Body::Refused(_) => &pool[0..0],
         Body::At(at, n) => &pool[at..at + n],
+    }
+}
+
+// The lowest address, at or above `from`, of an object with this tag; or the first of refusals 2, 3, 4, 2, 21, 23. Damage hides no tag.
+pub fn look_up(pool: &[u8], tag: u32, from: usize) -> Found
+    ensures { λ r. ⌜ lookUpOf r ≡ lookUp (now (pool .entry)) tag from ⌝ }
+{
+    match log::quiet(pool) {
+        Opened::Refused(n) => Found::Refused(n),
+        Opened::Good(s) => match tags::look_up(pool, s, tag, from) {
+            Hit::At(a) => Found::At(a),
+            Hit::Absent => Found::Absent,
+            Hit::Broken => Found::Refused(23),
+        },
     }
 }
 

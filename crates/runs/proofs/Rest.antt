@@ -14,7 +14,7 @@ use Rattle.rules.proofs.Bool.{split}
 use Rattle.rules.proofs.Laid.{read-says, says-cells, step-end, step-inv, walk-fuel}
 use Rattle.stage.specs.View.{Asked, Staged, part, seen}
 use Rattle.stage.proofs.Asked.{asked-seen}
-use Rattle.stage.proofs.View.{length-seen}
+use Rattle.stage.proofs.View.{length-seen, seen-none}
 use Rattle.runs.specs.Rest.{Meets, Passed, Zoned, metCells, metFree, restOf, walkOf, walkOn}
 use Rattle.rules.proofs.Sets.{drop-take}
 
@@ -63,6 +63,10 @@ module _ {v w : List ℕ} {from n c : ℕ} (s : Same v w from n) (h : c ≤ n) w
 
   pub whole-same : (a : Bool) {x : Bool} → x ≡ walkOn a (restOf v from n c) .whole → x ≡ walkOn a (restOf w from n c) .whole
   whole-same a k = rw (← rest-same) k
+
+-- with no entries the view is the pool itself
+pub meets-pool : {v : List ℕ} (st : List ℕ) {from n c : ℕ} {a : Bool} {m : ℕ} {f : Bool} → Meets (seen v st 0) from n c a m f → Meets v from n c a m f
+meets-pool {v} st e = rw (seen-none v st) at e
 
 -- ---- what is met, by the head
 

@@ -12,16 +12,12 @@ use Rattle.rules.proofs.Bool.{split}
 use Rattle.stage.specs.View.{part, seen}
 use Rattle.stage.proofs.View.{seen-none}
 use Rattle.runs.specs.Rest.{Meets, Passed, Zoned, walkOf}
-use Rattle.runs.proofs.Rest.{walk-passed}
+use Rattle.runs.proofs.Rest.{meets-pool, walk-passed}
 use Rattle.objects.specs.Named.{objectRun}
 use Rattle.objects.proofs.Naming.{body-inside, passed-object}
 use Rattle.scrub.specs.Counted.{ObjectThere, Tallied, damagedAt}
 
 -- ---- one run
-
--- with no entries the view is the pool itself
-pub meets-pool : {v : List ℕ} (st : List ℕ) {from n c : ℕ} {a : Bool} {m : ℕ} {f : Bool} → Meets (seen v st 0) from n c a m f → Meets v from n c a m f
-meets-pool {v} st e = rw (seen-none v st) at e
 
 pub pool-passed : {v : List ℕ} (st : List ℕ) {from n c : ℕ} {a : Bool} {m : ℕ} {f : Bool} → Zoned v from n → c < n → Meets (seen v st 0) from n c a m f → (m ≡ 0 → ⊥)
     → Passed v from n c a m f

@@ -18,15 +18,15 @@ returns : tie.Need-returns
 returns c =
     let f = c .before .before .before .look-for in
     let q = c .before .enum-told .given .1 in
-    (look-empty _ _ (f .result) (f .ensures .0) _ q, λ at n h. absurd (look-other _ _ (f .result) (f .ensures .0) _ at n q h))
+    (look-empty _ (f .result) (f .ensures .0) _ _ q, λ at n h. absurd (look-other _ (f .result) (f .ensures .0) _ at n q h))
 
 returns-2 : tie.Need-returns-2
 returns-2 c =
     let s = c .before .before .before .before .before .before .args .pool in
     let f = c .before .before .before .before .look-for in
     let q = c .before .before .at .given .1 in (
-      look-bytes _ _ (f .result) (f .ensures .0) _ _ q,
-      λ at n h. ap (λ (o : ℕ). (s .ptr .0, o)) (add-comm _ (s .ptr .1) ∙ ap (λ (o : ℕ). s .ptr .1 + o) (look-same _ _ (f .result) (f .ensures .0) _ _ at n q h)),
+      look-bytes _ (f .result) (f .ensures .0) _ _ _ q,
+      λ at n h. ap (λ (o : ℕ). (s .ptr .0, o)) (add-comm _ (s .ptr .1) ∙ ap (λ (o : ℕ). s .ptr .1 + o) (look-same _ (f .result) (f .ensures .0) _ _ at n q h)),
     )
 
 pub look-spec : {M : Type 1} → statement M

@@ -5,10 +5,10 @@ use Rattle.pool.proofs.look_refusal.Statement.{statement}
 use Rattle.pool.proofs.look_refusal.Tie as tie
 
 returns : tie.Need-returns
-returns c = look-number _ _ (c .before .before .before .look-for .result) (c .before .before .before .look-for .ensures .0) _ (c .before .n .given .1)
+returns c = look-number _ (c .before .before .before .look-for .result) (c .before .before .before .look-for .ensures .0) _ (c .before .n .given .1)
 
 returns-2 : tie.Need-returns-2
-returns-2 c = look-zero _ _ (c .before .before .look-for .result) (c .before .before .look-for .ensures .0) _ _ (c .enum-told .given .1)
+returns-2 c = look-zero _ (c .before .before .look-for .result) (c .before .before .look-for .ensures .0) _ _ (c .enum-told .given .1)
 
 pub look-refusal-spec : {M : Type 1} → statement M
 look-refusal-spec =

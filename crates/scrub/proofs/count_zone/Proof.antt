@@ -2,9 +2,10 @@
 use Prim.Native.Nat.{_-_, _≤_}
 use mathlib.Core.Path.{refl}
 use Rattle.runs.specs.Rest.{Passed, walkOf}
+use Rattle.runs.proofs.Rest.{meets-pool}
 use Rattle.runs.proofs.Walking.{Walking, walking-broken, walking-end, walking-passed, walking-start, walking-step}
 use Rattle.stage.proofs.Index.{indexed-none}
-use Rattle.scrub.proofs.Counting.{meets-pool, object-there, tallied, tallies, tallies-step}
+use Rattle.scrub.proofs.Counting.{object-there, tallied, tallies, tallies-step}
 use borrow.Author.Needs.{needs}
 use native.Mathlib.Omega.{arith}
 use Rattle.scrub.proofs.count_zone.Statement.{statement}

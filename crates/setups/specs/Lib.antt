@@ -1,0 +1,3 @@
+pub mod Setups
+pub mod Table
+pub mod Found

@@ -15,17 +15,20 @@
  * on a cached x86-64, clwb for each line stored to, then sfence. docs/DEVICE.md says more, docs/REFUSALS.md what to do when a call is
  * refused.
  *
+ * Ten set-ups, 0 to 9, need no address and no tag: pool_save stands in place of pool_begin and the calls that stage, pool_recall in place of
+ * pool_look. Tags 100 to 109 are theirs: leave these to them.
+ *
  * A transaction or a recovery belongs to the pool that it was begun on, and holds that pool's id: on a pool with another id it is refused.
  * Two pools with one id cannot be told from each other, so give each module an id of its own.
  *
- * The library needs memcpy and memset, has no data, runs at any address, and takes at most 1,152 bytes of stack. It uses the SSE2
+ * The library needs memcpy and memset, has no data, runs at any address, and takes at most 1,536 bytes of stack. It uses the SSE2
  * registers, which interrupt code must save, and the 128 bytes below the stack pointer, which interrupt code must leave alone. Between
  * two calls nothing is kept but what the caller holds.
  *
  * A call that is refused changes nothing: no byte of the pool or of the staging memory, and it hands back the record that it was
- * given. pool_begin and pool_recover are given none; if they are refused, they hand back one that no call takes. If several refusals apply,
- * the first is answered, in the order 1, 2 (under 512 bytes), 3, 4, 2 (length), 9, 10, 11, 29, 21, 22, 6, 8, 5, 23, 24, 25, 7, 26, 28, 27.
- * Their names and meanings stand below.
+ * given. pool_begin, pool_save and pool_recover are given none; if they are refused, they hand back one that no call takes. If several
+ * refusals apply, the first is answered, in the order 32, 33 (given), 1, 2 (under 512 bytes), 3, 4, 2 (length), 9, 10, 11, 29, 21, 22, 6, 8, 5,
+ * 23, 24, 31, 25, 33 (found), 7, 26, 28, 27. Their names and meanings stand below.
  */
 #ifndef POOL_H
 #define POOL_H
@@ -41,12 +44,17 @@ extern "C" {
 #endif
 
 /* The version of this interface: its records, names and numbers. */
-#define POOL_INTERFACE_VERSION 3
+#define POOL_INTERFACE_VERSION 4
 
 /* Bytes of staging memory that a transaction needs, bytes of the longest body, and entries of the longest transaction: distinct words. */
 #define POOL_STAGING 2032
 #define POOL_BODY 496
 #define POOL_ENTRIES 127
+
+/* How many set-ups there are, from 0 on, the bytes of each, and the tag of set-up n. */
+#define POOL_SETUPS 10
+#define POOL_SETUP_SIZE 120
+#define POOL_SETUP_TAG(n) (100 + (uint32_t)(n))
 
 /* Bytes of a pool of this shape. */
 #define POOL_SIZE(rows, cols, zones) ((18 + (size_t)(zones) * ((size_t)(rows) + 1) * (size_t)(cols)) * 256)
@@ -62,7 +70,7 @@ enum {
     POOL_DONE = 6     /* all steps are made; the value is their number. If it is not 0, pass a last barrier     */
 };
 
-/* Refusals that come from the input, then those that come from the state. */
+/* Refusals that come from the input, then those that come from the state, then those of set-ups. */
 enum {
     POOL_REFUSED_SHAPE = 1,          /* format: rows, cols or zones outside its range, or id 0                              */
     POOL_REFUSED_LENGTH = 2,         /* pool under 512 bytes, or not the header's (at format, the given shape's) length     */
@@ -88,7 +96,11 @@ enum {
     POOL_REFUSED_NO_ROOM = 26,   /* allocate: no zone broken and no free run long enough                                    */
     POOL_REFUSED_TOO_MANY = 27,  /* more than 127 distinct words touched                                                    */
     POOL_REFUSED_TWO_LOST = 28,  /* a mask with two bits or more                                                            */
-    POOL_REFUSED_PHASE = 29      /* staging or starting a commit when not open, or a step when not committing or recovering */
+    POOL_REFUSED_PHASE = 29,     /* staging or starting a commit when not open, or a step when not committing or recovering */
+
+    POOL_REFUSED_NO_SETUP = 31,     /* recall: no object has the set-up's tag                                               */
+    POOL_REFUSED_SETUP_NUMBER = 32, /* number above 9                                                                       */
+    POOL_REFUSED_SETUP_SIZE = 33    /* body not 120 bytes: the one given, or that of the object found                       */
 };
 
 /*
@@ -99,14 +111,15 @@ enum {
 
 /*
  * Answers have three forms, each the least that its call needs. pool_format and pool_mend have nothing to tell but the refusal: they
- * answer its number, or 0. pool_look, pool_scrub and pool_repair answer numbers that can be 0 themselves: the refusal stands beside
- * them, in a field of its own. The calls that begin or go on with a transaction or a recovery hand back the record and answer in several
- * kinds: a kind, its value and the record. pool_check cannot be refused and answers the check.
+ * answer its number, or 0. pool_look, pool_look_up, pool_recall, pool_scrub and pool_repair answer numbers that can be 0 themselves: the
+ * refusal stands beside them, in a field of its own. The calls that begin or go on with a transaction or a recovery hand back the record and
+ * answer in several kinds: a kind, its value and the record. pool_check cannot be refused and answers the check.
  */
 
 /*
- * A transaction, made by pool_begin: the id of its pool, the number of its entries, and its phase: 0 open, 1 closed (done), k + 2
- * committing, with k steps made. It goes in by value, and each call hands it back. After a refused pool_begin: id 0, no entries, closed.
+ * A transaction, made by pool_begin or pool_save: the id of its pool, the number of its entries, and its phase: 0 open, 1 closed (done),
+ * k + 2 committing, with k steps made. It goes in by value, and each call hands it back. After a refused pool_begin or pool_save: id 0, no
+ * entries, closed.
  */
 typedef struct {
     uint64_t id;
@@ -144,6 +157,13 @@ typedef struct {
     size_t length;
 } pool_part;
 
+/* Whether an object was found, 0 or 1, and its address. If refusal is not 0, or nothing was found, found and address are 0. */
+typedef struct {
+    size_t refusal;
+    size_t found;
+    size_t address;
+} pool_found;
+
 /* Objects met, damaged ones, broken zones, columns with wrong parity. If refusal is not 0, the counts are 0. */
 typedef struct {
     size_t refusal;
@@ -172,6 +192,12 @@ size_t pool_mend(uint8_t *pool, size_t pool_length);
 
 /* Where the body of the object at this address lies: committed bytes only. Refusals 2, 3, 4, 21, 5, 23, 24, 25. */
 pool_part pool_look(const uint8_t *pool, size_t pool_length, size_t address);
+
+/*
+ * Finds the object with this tag, committed bytes only: the lowest address at or above `from`, so 0 asks for the lowest of all. Every zone is
+ * judged before the answer; damage hides no object. Nothing found is no refusal. Refusals 2, 3, 4, 21, 23.
+ */
+pool_found pool_look_up(const uint8_t *pool, size_t pool_length, uint32_t tag, size_t from);
 
 /* Judges every object, zone and column. Refusals 2, 3, 4, 21. */
 pool_counts pool_scrub(const uint8_t *pool, size_t pool_length);
@@ -227,6 +253,24 @@ pool_reply pool_commit_step(pool_transaction transaction, uint8_t *pool, size_t 
  */
 pool_reply pool_commit_advance(pool_transaction transaction, uint8_t *pool, size_t pool_length, const uint8_t *staging,
                                size_t staging_length);
+
+/*
+ * ---- Set-ups 0 to 9, each of 120 bytes. Set-up n is the object with tag 100 + n, the lowest address if several. As long as no other call
+ * allocates, writes or frees an object with such a tag, they are a table of ten places, also over power cuts: a save that was cut leaves,
+ * after recovery, the old bytes or the new ones.
+ */
+
+/*
+ * Begins a transaction on this pool and stages set-up `number` in it: allocates the object (POOL_ADDRESS) or, if it is there, writes it whole
+ * (POOL_TAKEN). The set-up is saved by what follows, as any transaction: pool_commit, then pool_commit_advance, or pool_commit_step, with a
+ * barrier after each POOL_BARRIER and POOL_DONE, until POOL_DONE; a transaction that is dropped instead changes nothing. Refusals, in this
+ * order: 32, 33 (given), 2, 3, 4, 2, 9, 21, 23, 25, 33 (found), 26.
+ */
+pool_reply pool_save(const uint8_t *pool, size_t pool_length, uint8_t *staging, size_t staging_length, size_t number, const uint8_t *body,
+                     size_t body_length);
+
+/* Where the 120 bytes of set-up `number` lie: committed bytes only. Refusals, in this order: 32, 2, 3, 4, 2, 21, 23, 31, 25, 33 (found). */
+pool_part pool_recall(const uint8_t *pool, size_t pool_length, size_t number);
 
 /* ---- Recovery, after a power cut, before any other call on the pool. A recovery that is cut is started anew. */
 

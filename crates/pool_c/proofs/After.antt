@@ -6,11 +6,13 @@ use Rattle.rules.specs.Staging as Staging
 use Rattle.rules.specs.Answer.{After, Changed, Given}
 use Rattle.rules.specs.Plan.{Call}
 use Rattle.rules.specs.Repair as Repairing
+use Rattle.rules.specs.Tag.{LookUp}
 use Rattle.rules.specs.Calls.{TransactionStart, call, transactionStart}
 use Rattle.powercut.specs.Recovery as Paper
 use Rattle.powercut.specs.Recovery.{RecoveryAfter}
 use Rattle.answers.specs.Meaning.{answerOf, valueOf}
 use Rattle.record.specs.Meaning.{phaseOf}
+use Rattle.pool.specs.declared.Found.{Found}
 use Rattle.pool.specs.declared.Outcome.{Outcome}
 use Rattle.pool.specs.declared.Repaired.{Repaired}
 use Rattle.pool.specs.Meaning as Pool
@@ -25,7 +27,7 @@ use Rattle.pool_c.specs.declared.transactions.Transaction.{Transaction}
 use Rattle.pool_c.specs.declared.transactions.Reply.{Reply}
 use Rattle.pool_c.specs.declared.recoveries.Recovery as C
 use Rattle.pool_c.specs.declared.recoveries.RecoveryReply.{RecoveryReply}
-use Rattle.pool_c.specs.Meaning.{Fits64, afterOut, changedOut, givenIn, phaseIn, phaseOut, recoveryAfterOut, recoveryIn, recoveryReplyOut, repairOut, repairedOut, replyOut, startOut, transactionIn}
+use Rattle.pool_c.specs.Meaning.{Fits64, afterOut, changedOut, foundOut, givenIn, phaseIn, phaseOut, recoveryAfterOut, recoveryIn, recoveryReplyOut, repairOut, repairedOut, replyOut, startOut, transactionIn}
 use Rattle.pool_c.proofs.Reading.{phase-out-in, progress-out-in, work-out-in}
 use Rattle.pool_c.proofs.Fits.{Fits, Keeps, KeepsFits, begin-fits, call-fits}
 
@@ -38,6 +40,10 @@ changed-out x q e h = ap (λ (n : ℕ). (n, q)) e ∙ ap changedOut h
 pub repaired-out : {x y : Repaired} (q : List ℕ) {z : Repairing.Repaired} → x ≡ y → Pool.repairedOf x q ≡ z → (repairOut (Pool.repairOf y), q) ≡ repairedOut z
 repaired-out q e h = ap (λ (x : Repaired). repairedOut (Pool.repairedOf x q)) (sym e) ∙ ap repairedOut h
 
+-- the look-up's answer x, told as the case y
+pub found-out : {x y : Found} {z : LookUp} → x ≡ y → Pool.lookUpOf x ≡ z → foundOut (Pool.lookUpOf y) ≡ foundOut z
+found-out e h = ap (λ (x : Found). foundOut (Pool.lookUpOf x)) (sym e) ∙ ap foundOut h
+
 -- ---- a transaction begun: x is what the public call hands back
 
 module _ (p : List ℕ) (x : PublicReply.Reply) (h : startOf x ≡ transactionStart p) where
@@ -47,8 +53,16 @@ module _ (p : List ℕ) (x : PublicReply.Reply) (h : startOf x ≡ transactionSt
   pub begin-after-out : {r : Reply} → r ≡ replyOut (answerOf (x .answer)) (transactionOf (x .transaction)) → r ≡ startOut (transactionStart p)
   begin-after-out e = e ∙ ap startOut h
 
--- ---- a transaction: f is the definition, d the transaction decoded from t, x what the public call hands back
+-- ---- a transaction: x is what the public call hands back
 
+module _ (x : PublicReply.Reply) (q st : List ℕ) {y : After} (h : afterOf x q st ≡ y) where
+  pub transaction-after-fits : Fits64 (phaseOut (y .left .txn .phase)) → Fits64 (phaseOut (phaseOf (x .transaction .txn .phase)))
+  transaction-after-fits l = subst (λ (z : After). Fits64 (phaseOut (z .left .txn .phase))) (sym h) l
+
+  pub transaction-after-out : {r : Reply} → r ≡ replyOut (answerOf (x .answer)) (transactionOf (x .transaction)) → (r, q, st) ≡ afterOut y
+  transaction-after-out e = ap (λ (z : Reply). (z, q, st)) e ∙ ap afterOut h
+
+-- f is the definition, d the transaction decoded from t
 module _ (f : Given → After) (t : Transaction) (d : Public.Transaction) (x : PublicReply.Reply) (p st q st′ : List ℕ)
     (e : transactionOf d ≡ transactionIn t) (h : afterOf x q st′ ≡ f (givenOf d p st)) where
   left : afterOf x q st′ ≡ f (givenIn t p st)
@@ -57,10 +71,10 @@ module _ (f : Given → After) (t : Transaction) (d : Public.Transaction) (x : P
   pub after-fits : Keeps f → Fits64 (t .phase) → Fits64 (phaseOut (phaseOf (x .transaction .txn .phase)))
   after-fits k l =
       let i : Fits64 (phaseOut (phaseIn (t .phase))) = rw phase-out-in l in
-      subst (λ (z : After). Fits64 (phaseOut (z .left .txn .phase))) (sym left) (k (givenIn t p st) i)
+      transaction-after-fits x q st′ left (k (givenIn t p st) i)
 
   pub after-out : {r : Reply} → r ≡ replyOut (answerOf (x .answer)) (transactionOf (x .transaction)) → (r, q, st′) ≡ afterOut (f (givenIn t p st))
-  after-out i = ap (λ (z : Reply). (z, q, st′)) i ∙ ap afterOut left
+  after-out i = transaction-after-out x q st′ left i
 
 -- allocate, write and free
 module _ (k : Call) (t : Transaction) (d : Public.Transaction) (x : PublicReply.Reply) (p st st′ : List ℕ)

@@ -15,9 +15,9 @@ use Rattle.rules.specs.Test.{first}
 use Rattle.rules.specs.Header.{idIn, openTests, shapeIn}
 use Rattle.rules.specs.Seals.{readTests}
 use Rattle.rules.specs.Staging.{Phase, closed, commitLength, committing, fresh, impossible, live, pastCommit}
-use Rattle.rules.specs.Answer.{After, Given, conclude}
+use Rattle.rules.specs.Answer.{After, Given, conclude, isRefused}
 use Rattle.rules.specs.Plan.{Call}
-use Rattle.rules.specs.Calls.{call, concludeStart, recordTests, staged, transactionStart}
+use Rattle.rules.specs.Calls.{begun, call, concludeStart, recordTests, staged, transactionStart}
 use Rattle.rules.proofs.Bool.{or-false, split}
 use Rattle.rules.proofs.Test.{first-passed, passed-left, passed-right}
 use Rattle.powercut.specs.Log.{countIn, valid}
@@ -25,6 +25,7 @@ use Rattle.powercut.specs.Steps.{Remedy, clear, neither, nothing, remedy, repla
 use Rattle.powercut.specs.Commit.{commitList, commitMore, commitOn, commitStart, commitStep, commitTests, isStored, nextPhase, placeIn, startPhase}
 use Rattle.powercut.specs.Recovery.{Recovery, RecoveryAfter, concludeRecovery, doneSteps, nextProgress, recoveryList, recoveryMore, recoveryOn, recoveryStart, recoveryStep, startRecovery}
 use Rattle.powercut.proofs.RunMatches.{again-inside}
+use Rattle.setups.specs.Setups.{concludeSave, saveCall, saveTests, saved, unsaved}
 use Rattle.pool_c.specs.Meaning.{Fits64, phaseOut, progressOut, workOut}
 
 -- ---- a transaction
@@ -50,6 +51,14 @@ begin-fits p = go (first (readTests p))
 pub call-fits : (k : Call) → Keeps (λ (g : Given). call g k)
 unfolding call staged
 call-fits k g h = conclude-fits g _ _ h (λ e. omega arith)
+
+pub save-fits : (p st : List ℕ) (n : ℕ) (body : List ℕ) → Fits64 (phaseOut (saved p st n body .left .txn .phase))
+unfolding saved begun
+save-fits p st n body = concluded (first (saveTests p st n body)) (call (begun p st) (saveCall p n body)) (call-fits (saveCall p n body) (begun p st) (begin-fits p))
+  where
+    concluded : (o : Option ℕ) (x : After) → Fits64 (phaseOut (x .left .txn .phase)) → Fits64 (phaseOut (concludeSave p st o x .left .txn .phase))
+    concluded none x h = unfold concludeSave unsaved in split (isRefused (x .answer)) (λ e. rw e (omega arith)) (λ e. rw e h)
+    concluded (some m) x h = unfold concludeSave unsaved in omega arith
 
 pub start-fits : Keeps commitStart
 unfolding commitStart

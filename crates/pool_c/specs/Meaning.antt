@@ -9,6 +9,7 @@ use Rattle.rules.specs.Calls.{TransactionStart}
 use Rattle.rules.specs.Look as Looking
 use Rattle.rules.specs.Repair as Repairing
 use Rattle.rules.specs.Scrub as Scrubbing
+use Rattle.rules.specs.Tag as Tagging
 use Rattle.powercut.specs.Log.{Log, fromA, fromB}
 use Rattle.powercut.specs.Steps.{Remedy, clear, neither, nothing, replay}
 use Rattle.powercut.specs.Recovery as Recovering
@@ -21,6 +22,7 @@ use Rattle.pool_c.specs.declared.transactions.Transaction.{Transaction}
 use Rattle.pool_c.specs.declared.transactions.Reply.{Reply}
 use Rattle.pool_c.specs.declared.recoveries.Recovery.{Recovery}
 use Rattle.pool_c.specs.declared.recoveries.RecoveryReply.{RecoveryReply}
+use Rattle.pool_c.specs.declared.tagged.Found.{Found}
 
 -- A number of 8 bytes.
 abbrev pub Fits64 : ℕ → Type 0
@@ -121,3 +123,11 @@ recoveryReplyOut a r = record { kind = kindOf a; value = valueOf a; recovery = r
 
 abbrev pub recoveryAfterOut : RecoveryAfter → RecoveryReply × List ℕ
 recoveryAfterOut x = (recoveryReplyOut (x .answer) (x .recovery), x .pool)
+
+-- ---- The look-up by tag.
+
+-- The address found, and 1; zeros where there is none; or the refusal, and zeros.
+abbrev pub foundOut : Tagging.LookUp → Found
+foundOut (Tagging.at a) = record { refusal = 0; found = 1; address = a }
+foundOut Tagging.absent = record { refusal = 0; found = 0; address = 0 }
+foundOut (Tagging.refused n) = record { refusal = n; found = 0; address = 0 }

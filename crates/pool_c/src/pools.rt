@@ -7,6 +7,7 @@ ghost use Rattle.rules.specs.Mend.{mendHeader};
 ghost use Rattle.rules.specs.Repair.{repair as repairCall};
 ghost use Rattle.rules.specs.Scrub.{scrub as scrubbed};
 ghost use Rattle.answers.specs.Meaning.{valueOf};
+ghost use Rattle.zones.specs.Body.{lookOf};
 ghost use Rattle.pool.specs.Meaning.{answerOf};
 ghost use Rattle.pool_c.specs.Meaning.{changedOut, countsOut, partOut, repairedOut};
 use pool::Outcome;
@@ -87,12 +88,11 @@ pub extern "C" fn pool_repair(pool: &mut [u8], lost: &[u16]) -> Repaired
     }
 }
 
-// Where the body of the object at this address lies.
-#[no_mangle]
-pub extern "C" fn pool_look(pool: &[u8], address: usize) -> Part
-    ensures { λ r. ⌜ r ≡ partOut (looked (now (pool .entry)) address) ⌝ }
+// The part that goes out for a body.
+pub fn part_of(body: Body) -> Part
+    ensures { λ r. ⌜ r ≡ partOut (lookOf body) ⌝ }
 {
-    match pool::look_for(pool, address) {
+    match body {
         Body::Refused(n) => Part {
             refusal: n as usize,
             offset: 0,
@@ -104,6 +104,14 @@ pub extern "C" fn pool_look(pool: &[u8], address: usize) -> Part
             length,
         },
     }
+}
+
+// Where the body of the object at this address lies.
+#[no_mangle]
+pub extern "C" fn pool_look(pool: &[u8], address: usize) -> Part
+    ensures { λ r. ⌜ r ≡ partOut (looked (now (pool .entry)) address) ⌝ }
+{
+    part_of(pool::look_for(pool, address))
 }
 
 // Judges every object, zone and column.

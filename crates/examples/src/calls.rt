@@ -3,7 +3,8 @@ use crate::report::answer;
 use transaction::Reply;
 use transaction::Transaction;
 
-fn say(name: &[u8], r: Reply) -> Transaction {
+// Prints what a call answers and the entries then.
+pub fn say(name: &[u8], r: Reply) -> Transaction {
     let a = r.answer;
     let t = r.transaction;
     let txn = t.txn;

@@ -60,6 +60,12 @@ pub fn number(name: &[u8], n: usize) {
     numbered(b"", n);
 }
 
+// The same, and the line goes on.
+pub fn told(name: &[u8], n: usize) {
+    io::write_all(STDOUT_FILENO, name);
+    print_decimal(STDOUT_FILENO, n as u64);
+}
+
 pub fn answer(name: &[u8], a: Answer) {
     io::write_all(STDOUT_FILENO, name);
     match a {

@@ -136,7 +136,7 @@ int main(void)
     barrier();
     printf("formatted, %zu bytes\n", (size_t)LENGTH);
 
-    size_t address = save(100, "1 kHz, 0.5 V");
+    size_t address = save(1, "1 kHz, 0.5 V");
     show(address);
 
     replace_until_cut(address, "2 kHz, 1.0 V", 9); /* no seal is stored yet: the old bytes stay */

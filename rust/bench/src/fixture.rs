@@ -77,6 +77,9 @@ impl Clone for Pool {
     }
 }
 
+/// Above the tags of set-ups.
+const FIRST_TAG: u32 = 1000;
+
 /// A pool with at most so many objects of this body length, and their addresses.
 pub fn filled(shape: Shape, body: usize, objects: usize) -> (Pool, Vec<usize>) {
     let mut pool = Pool::new(shape.length());
@@ -84,7 +87,7 @@ pub fn filled(shape: Shape, body: usize, objects: usize) -> (Pool, Vec<usize>) {
     let (mut addresses, mut staging, mut t) = (Vec::new(), [0; 2032], PLAIN.open(&pool));
     while addresses.len() < objects {
         let bytes: Vec<u8> = (0..body).map(|i| (i * 7 + addresses.len()) as u8).collect();
-        let reply = allocate(t, &pool, &mut staging, addresses.len() as u32, &bytes);
+        let reply = allocate(t, &pool, &mut staging, FIRST_TAG + addresses.len() as u32, &bytes);
         if reply.kind == ADDRESS {
             addresses.push(reply.value);
             t = reply.transaction;

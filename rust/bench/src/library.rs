@@ -1,8 +1,9 @@
 //! The two implementations behind one table of functions, so that both are called alike.
-use reference::{Counts, Recovery, RecoveryReply, Repaired, Reply, Transaction};
+use reference::{Counts, Found, Part, Recovery, RecoveryReply, Repaired, Reply, Transaction};
 
 #[allow(clippy::type_complexity)] // the signatures of pool.h
 pub struct Library {
+    pub look_up: fn(&[u8], u32, usize) -> Found,
     pub scrub: fn(&[u8]) -> Counts,
     pub repair: fn(&mut [u8], &[u16]) -> Repaired,
     pub check: fn(&[u8]) -> u32,
@@ -13,6 +14,8 @@ pub struct Library {
     pub commit: fn(Transaction, &[u8], &[u8]) -> Reply,
     pub commit_step: fn(Transaction, &mut [u8], &[u8]) -> Reply,
     pub commit_advance: fn(Transaction, &mut [u8], &[u8]) -> Reply,
+    pub save_setup: fn(&[u8], &mut [u8], usize, &[u8]) -> Reply,
+    pub recall: fn(&[u8], usize) -> Part,
     pub recover: fn(&[u8]) -> RecoveryReply,
     pub recover_step: fn(Recovery, &mut [u8]) -> RecoveryReply,
     pub recover_advance: fn(Recovery, &mut [u8]) -> RecoveryReply,
@@ -21,6 +24,7 @@ pub struct Library {
 macro_rules! library {
     ($name:ident, $from:ident) => {
         pub static $name: Library = Library {
+            look_up: $from::look_up,
             scrub: $from::scrub,
             repair: $from::repair,
             check: $from::check,
@@ -31,6 +35,8 @@ macro_rules! library {
             commit: $from::commit,
             commit_step: $from::commit_step,
             commit_advance: $from::commit_advance,
+            save_setup: $from::save,
+            recall: $from::recall,
             recover: $from::recover,
             recover_step: $from::recover_step,
             recover_advance: $from::recover_advance,

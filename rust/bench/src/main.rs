@@ -15,6 +15,7 @@ mod pages;
 mod report;
 mod runs;
 mod saves;
+mod setups;
 mod staging;
 
 use report::Row;
@@ -68,8 +69,17 @@ fn flush_by_instructions() -> Result<(), String> {
 
 fn run(number: usize) -> Vec<Row> {
     eprintln!("run {number}");
-    let groups =
-        [pages::check, pages::scrub, pages::repair, staging::calls, staging::growth, commit::commits, saves::saves, commit::recoveries];
+    let groups = [
+        pages::check,
+        pages::scrub,
+        pages::repair,
+        staging::calls,
+        staging::growth,
+        commit::commits,
+        saves::saves,
+        commit::recoveries,
+        setups::setups,
+    ];
     groups.into_iter().flat_map(|group| group()).collect()
 }
 

@@ -1,6 +1,6 @@
 //! The calls of the boundary as values, made on the library and on the reference with everything compared.
 use crate::layout::{differing, LOGS};
-use linked::{Counts, Part, Recovery, RecoveryReply, Repaired, Reply, Transaction};
+use linked::{Counts, Found, Part, Recovery, RecoveryReply, Repaired, Reply, Transaction};
 
 /// What calls are given and change.
 #[derive(Clone, Debug, PartialEq, Eq)]
@@ -25,6 +25,7 @@ pub enum Call {
     Format { rows: usize, cols: usize, zones: usize, id: u64 },
     Mend,
     Look(usize),
+    LookUp { tag: u32, from: usize },
     Scrub,
     Repair(Vec<u16>),
     Check(Vec<u8>),
@@ -35,6 +36,8 @@ pub enum Call {
     Commit,
     CommitStep,
     CommitAdvance,
+    Save { number: usize, body: Vec<u8> },
+    Recall(usize),
     Recover,
     RecoverStep,
     RecoverAdvance,
@@ -44,6 +47,7 @@ pub enum Call {
 pub enum Answer {
     Refusal(usize),
     Part(Part),
+    Found(Found),
     Counts(Counts),
     Repaired(Repaired),
     Sum(u32),
@@ -57,6 +61,7 @@ impl Call {
             Call::Format { .. } => "format",
             Call::Mend => "mend",
             Call::Look(_) => "look",
+            Call::LookUp { .. } => "look_up",
             Call::Scrub => "scrub",
             Call::Repair(_) => "repair",
             Call::Check(_) => "check",
@@ -67,6 +72,8 @@ impl Call {
             Call::Commit => "commit",
             Call::CommitStep => "commit_step",
             Call::CommitAdvance => "commit_advance",
+            Call::Save { .. } => "save",
+            Call::Recall(_) => "recall",
             Call::Recover => "recover",
             Call::RecoverStep => "recover_step",
             Call::RecoverAdvance => "recover_advance",
@@ -75,7 +82,7 @@ impl Call {
 
     /// Whether it is given no record and hands one back, also if it is refused.
     fn begins(&self) -> bool {
-        matches!(self, Call::Begin | Call::Recover)
+        matches!(self, Call::Begin | Call::Save { .. } | Call::Recover)
     }
 }
 
@@ -85,6 +92,7 @@ impl Answer {
         match *self {
             Answer::Refusal(n) => (n, None),
             Answer::Part(part) => (part.refusal, None),
+            Answer::Found(found) => (found.refusal, None),
             Answer::Counts(counts) => (counts.refusal, None),
             Answer::Repaired(repaired) => (repaired.refusal, None),
             Answer::Sum(_) => (0, None),
@@ -116,6 +124,7 @@ macro_rules! make_call {
                 &Call::Format { rows, cols, zones, id } => Answer::Refusal($side::format(pool, rows, cols, zones, id)),
                 Call::Mend => Answer::Refusal($side::mend(pool)),
                 &Call::Look(address) => Answer::Part($side::look(pool, address)),
+                &Call::LookUp { tag, from } => Answer::Found($side::look_up(pool, tag, from)),
                 Call::Scrub => Answer::Counts($side::scrub(pool)),
                 Call::Repair(lost) => Answer::Repaired($side::repair(pool, lost)),
                 Call::Check(bytes) => Answer::Sum($side::check(bytes)),
@@ -126,6 +135,8 @@ macro_rules! make_call {
                 Call::Commit => Answer::Reply($side::commit(t, pool, staging)),
                 Call::CommitStep => Answer::Reply($side::commit_step(t, pool, staging)),
                 Call::CommitAdvance => Answer::Reply($side::commit_advance(t, pool, staging)),
+                Call::Save { number, body } => Answer::Reply($side::save(pool, staging, *number, body)),
+                &Call::Recall(number) => Answer::Part($side::recall(pool, number)),
                 Call::Recover => Answer::RecoveryReply($side::recover(pool)),
                 Call::RecoverStep => Answer::RecoveryReply($side::recover_step(r, pool)),
                 Call::RecoverAdvance => Answer::RecoveryReply($side::recover_advance(r, pool)),

@@ -1,7 +1,8 @@
 //! Commits and recoveries of the library, with barriers where it asks for them, until they end or the power fails. They are driven by the
 //! calls that go on to the next barrier, with single steps beside them: the pool after each step is what a cut inside the call meets, and
 //! at each barrier both ways must have come to the same bytes and the same answer.
-use crate::memory::Memory;
+use crate::memory::{Image, Memory};
+use crate::random::Random;
 use crate::staged::Staged;
 use linked::{BARRIER, DONE, STARTED, STORED};
 use std::fmt::Debug;
@@ -77,6 +78,41 @@ pub fn recover(memory: &mut Memory, entries: usize, mut goes_on: impl FnMut(&Mem
         recovery = reply.recovery;
     }
     goes_on(memory, last)
+}
+
+/// A commit that came to its end, or was cut and recovered: the pool, whether all objects must be new, and how many cuts there were.
+pub struct Ended {
+    pub pool: Vec<u8>,
+    pub new: bool,
+    pub cuts: usize,
+}
+
+/// Commits; perhaps the power is cut, then recovers, perhaps cut again, until a recovery ends.
+pub fn commit_with_random_cuts(random: &mut Random, pool: Vec<u8>, staged: &Staged) -> Ended {
+    let entries = staged.transaction.count;
+    let cut_at = random.below(2 * commit_steps(entries));
+    let mut memory = Memory::new(Image::new(pool));
+    let done = commit(&mut memory, staged, |_, steps| steps != cut_at);
+    let left = (!done).then(|| memory.random_cut(random));
+    let new = done || cut_at >= steps_to_sealed(entries) || left.as_ref().is_some_and(Image::has_seal);
+    let (pool, cuts) = match left {
+        Some(image) => recover_with_random_cuts(random, image, entries),
+        None => (memory.seen().to_vec(), 0),
+    };
+    Ended { pool, new, cuts }
+}
+
+/// Recovers what a cut left; perhaps the power is cut again, until a recovery ends. Answers the pool, and how many cuts there were, with the first.
+pub fn recover_with_random_cuts(random: &mut Random, mut image: Image, entries: usize) -> (Vec<u8>, usize) {
+    for cuts in 1.. {
+        let cut_at = random.below(4 * entries + 10);
+        let mut memory = Memory::new(image);
+        if recover(&mut memory, entries, |_, steps| steps != cut_at) {
+            return (memory.seen().to_vec(), cuts);
+        }
+        image = memory.random_cut(random);
+    }
+    unreachable!()
 }
 
 /// Step `number` of `last` was answered so: its number must be right, and done said after the last step only.

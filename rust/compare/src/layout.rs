@@ -18,6 +18,14 @@ pub struct Shape {
     pub zones: usize,
 }
 
+/// Set-ups are numbered from 0; set-up n has the tag 100 + n and a body of 120 bytes.
+pub const SETUPS: usize = 10;
+pub const SETUP_SIZE: usize = 120;
+
+pub fn setup_tag(number: usize) -> u32 {
+    100 + number as u32
+}
+
 pub const LARGEST: Shape = Shape { rows: 15, cols: 64, zones: 16 };
 
 impl Shape {
@@ -48,6 +56,11 @@ impl Shape {
     /// Where the cell with this address begins.
     pub fn cell(self, address: usize) -> usize {
         self.zone(address / self.cells()) + address % self.cells() * CELL
+    }
+
+    /// The address of the cell of zone z that begins here.
+    pub fn address(self, z: usize, at: usize) -> usize {
+        z * self.cells() + (at - self.zone(z)) / CELL
     }
 
     /// Number of words in all data rows.
@@ -248,6 +261,13 @@ pub fn fault(pool: &[u8], at: usize) -> Option<Fault> {
 pub fn object_heads(shape: Shape, pool: &[u8], z: usize) -> Vec<usize> {
     let (runs, _) = runs(shape, pool, z);
     runs.iter().filter(|run| run.object).map(|run| shape.zone(z) + run.cell * CELL).collect()
+}
+
+/// The addresses of all objects with this tag, ascending, damaged ones too; of a zone those up to its break.
+pub fn tagged(shape: Shape, pool: &[u8], tag: u32) -> Vec<usize> {
+    let has_tag = |at: &usize| get(pool, at + 12, 4) == u64::from(tag);
+    let in_zone = |z| object_heads(shape, pool, z).into_iter().filter(has_tag).map(move |at| shape.address(z, at));
+    (0..shape.zones).flat_map(in_zone).collect()
 }
 
 /// An object as the application knows it.

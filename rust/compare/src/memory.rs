@@ -1,5 +1,6 @@
 //! Non-volatile memory as the pool's rules describe it: a barrier makes all stores reach memory; a power cut keeps
 //! any subset of the stores since the last barrier, each whole, in order.
+use crate::layout::{get, LOGS};
 use crate::random::{mix, Random};
 
 /// An aligned 8-byte store.
@@ -29,6 +30,11 @@ impl Image {
         let words = (0..pool.len()).step_by(8);
         let key = words.fold(0, |sum: u64, at| sum.wrapping_add(part_of_key(at, word(&pool, at))));
         Image { pool, key }
+    }
+
+    /// Whether a seal is not zero.
+    pub fn has_seal(&self) -> bool {
+        LOGS.iter().any(|&log| get(&self.pool, log, 8) != 0)
     }
 
     /// Makes a store; answers the store that takes it back.

@@ -51,6 +51,33 @@ fn fill_zone(random: &mut Random, shape: Shape, pool: &mut [u8], z: usize, free:
     }
 }
 
+/// Gives a sound pool objects with the tags of set-ups: of three cells, most with 120 bytes, in place of such objects or in free runs; and of
+/// any length, another tag for an object that is there.
+pub fn put_setups(random: &mut Random, shape: Shape, pool: &mut [u8]) {
+    for z in 0..shape.zones {
+        for run in runs(shape, pool, z).0 {
+            put_setup(random, pool, shape.zone(z) + run.cell * CELL, run);
+        }
+    }
+    put_parity(shape, pool);
+}
+
+fn put_setup(random: &mut Random, pool: &mut [u8], at: usize, run: Run) {
+    const CELLS: usize = 3;
+    let tag = setup_tag(random.below(SETUPS));
+    let free = !run.object;
+    if run.cells == CELLS || free && run.cells > CELLS && random.once_in(2) {
+        let length = random.pick(&[SETUP_SIZE, SETUP_SIZE, SETUP_SIZE, SETUP_SIZE - 1, SETUP_SIZE + 1]);
+        put_object(pool, at, tag, &random.bytes(length));
+        if run.cells > CELLS {
+            put_free(pool, at + CELLS * CELL, run.cells - CELLS);
+        }
+    } else if run.object && random.once_in(8) {
+        let body = pool[at + 16..behind_body(pool, at).start].to_vec();
+        put_object(pool, at, tag, &body);
+    }
+}
+
 /// A body that fits into so many cells.
 pub fn body(random: &mut Random, cells: usize) -> Vec<u8> {
     let longest = (cells * CELL - 16).min(496);
@@ -216,6 +243,16 @@ pub fn stage_behind_body(random: &mut Random, shape: Shape, pool: &[u8], entries
         put(entry, 0, 8, target as u64);
         entry[8..].copy_from_slice(&pool[target..target + 8]);
         entry[8 + at % 8] = if pool[at] == 0 { 1 << random.below(8) } else { 0 };
+    }
+}
+
+/// A bit of each set-up that is there: of its body or behind it.
+pub fn strike_setups(random: &mut Random, shape: Shape, pool: &mut [u8]) {
+    let addresses: Vec<usize> = (0..SETUPS).flat_map(|number| tagged(shape, pool, setup_tag(number))).collect();
+    for address in addresses {
+        let at = shape.cell(address);
+        let place = random.from_to(at + 16, behind_body(pool, at).end - 1);
+        pool[place] ^= 1 << random.below(8);
     }
 }
 

@@ -11,10 +11,14 @@ const HUGE: [usize; 6] = [usize::MAX, usize::MAX - 1, usize::MAX - 2, 1 << 63, 1
 /// A pool, sound or not, with its shape, and random staging memory and records for it.
 pub fn given(random: &mut Random, shape: Shape) -> Given {
     let mut pool = pools::filled(random, shape);
+    if random.once_in(2) {
+        pools::put_setups(random, shape, &mut pool);
+    }
     match random.below(20) {
         0 => pool = pools::scribbled(random, shape.length()),
         1..=8 => (0..random.from_to(1, 3)).for_each(|_| pools::damage(random, shape, &mut pool)),
         9..=11 => pools::put_log(random, shape, &mut pool),
+        12 | 13 => pools::strike_setups(random, shape, &mut pool),
         _ => (),
     }
     let (staging, transaction) = staged(random, shape, &pool);
@@ -198,6 +202,44 @@ fn allocate(random: &mut Random) -> Call {
     Call::Allocate { tag: random.next() as u32, body: random.bytes(length) }
 }
 
+/// The number of a set-up, of one that is there or of any; or one past the last, or a high one, such that it is a set-up's number or tag modulo
+/// 256 or 2^32, too.
+fn setup_number(random: &mut Random, shape: Shape, pool: &[u8]) -> usize {
+    let number = random.below(SETUPS);
+    match random.below(16) {
+        0 => random.pick(&[SETUPS, SETUPS + 1, 100 + number, 256 + number, (1 << 32) + number, number.wrapping_sub(100)]),
+        1 => random.pick(&HUGE),
+        2..=9 if pool.len() >= shape.length() => {
+            let there = (0..SETUPS).filter(|&number| !tagged(shape, pool, setup_tag(number)).is_empty()).collect::<Vec<_>>();
+            if there.is_empty() {
+                number
+            } else {
+                random.pick(&there)
+            }
+        }
+        _ => number,
+    }
+}
+
+/// Mostly with a body of the right length.
+fn save(random: &mut Random, shape: Shape, pool: &[u8]) -> Call {
+    let length = if random.once_in(12) { random.pick(&[0, 1, 119, 121, 376, 496, 497]) } else { SETUP_SIZE };
+    Call::Save { number: setup_number(random, shape, pool), body: random.bytes(length) }
+}
+
+/// The tag of a set-up, of any object, of free runs, or one that is nowhere; from the pool's first cell on, or from elsewhere.
+fn look_up(random: &mut Random, shape: Shape, pool: &[u8]) -> Call {
+    let place = address(random, shape, pool);
+    let head = shape.cell(place.min(shape.zones * shape.cells() - 1));
+    let tag = match random.below(8) {
+        0 => random.pick(&[0, 99, 110, u32::MAX]),
+        1..=3 if head + 16 <= pool.len() => get(pool, head + 12, 4) as u32,
+        _ => setup_tag(random.below(SETUPS)),
+    };
+    let from = if random.once_in(2) { 0 } else { random.pick(&[place, place.wrapping_add(1)]) };
+    Call::LookUp { tag, from }
+}
+
 /// A call that stages words; addresses are mostly those of the staged view.
 pub fn staging_call(random: &mut Random, shape: Shape, given: &Given) -> Call {
     match random.below(3) {
@@ -209,7 +251,7 @@ pub fn staging_call(random: &mut Random, shape: Shape, given: &Given) -> Call {
 
 /// Any call on this pool.
 pub fn call(random: &mut Random, shape: Shape, given: &Given) -> Call {
-    match random.below(32) {
+    match random.below(37) {
         0 => format(random, shape),
         1 => Call::Mend,
         2 | 3 => Call::Look(address(random, shape, &given.pool)),
@@ -222,6 +264,9 @@ pub fn call(random: &mut Random, shape: Shape, given: &Given) -> Call {
         13 => Call::Recover,
         14 | 15 => Call::RecoverStep,
         16 | 17 => Call::RecoverAdvance,
+        18 | 19 => save(random, shape, &given.pool),
+        20 => Call::Recall(setup_number(random, shape, &given.pool)),
+        21 | 22 => look_up(random, shape, &given.pool),
         _ => staging_call(random, shape, given),
     }
 }

@@ -1,8 +1,8 @@
 //! Transactions staged by the library, and the objects that they must leave, worked out from the arguments and
 //! answers alone.
-use crate::layout::Object;
+use crate::layout::{setup_tag, Object};
 use crate::random::Random;
-use linked::{Transaction, ADDRESS, TAKEN};
+use linked::{Reply, Transaction, ADDRESS, TAKEN};
 
 /// Bytes of staging memory that a transaction needs.
 pub const STAGING: usize = 2032;
@@ -34,6 +34,21 @@ impl Staged {
     /// A fresh transaction on a pool, which has these objects.
     pub fn new(pool: &[u8], old: &[Object]) -> Staged {
         Staged { transaction: begin(pool), staging: vec![0; STAGING], new: old.to_vec(), refused: 0 }
+    }
+
+    /// A set-up saved, which was answered so, on a pool that has these objects.
+    pub fn save(reply: Reply, staging: Vec<u8>, old: &[Object], number: usize, body: &[u8]) -> Staged {
+        let (transaction, tag) = (reply.transaction, setup_tag(number));
+        let mut staged = Staged { transaction, staging, new: old.to_vec(), refused: 0 };
+        match reply.kind {
+            ADDRESS => staged.enter(reply.value, tag, body),
+            TAKEN => {
+                let lowest = staged.new.iter_mut().find(|object| object.tag == tag).expect("the set-up is there");
+                lowest.body = body.to_vec();
+            }
+            kind => panic!("a save answers kind {kind}"),
+        }
+        staged
     }
 
     /// Stages a change; a refused one alters nothing.

@@ -1,5 +1,5 @@
-//! The library from C: the header, the example program, a program with two modules, and the boundary as Rust declares it.
-use linked::{Counts, Part, Recovery, RecoveryReply, Repaired, Reply, Transaction};
+//! The library from C: the header, the example programs, a program with two modules, and the boundary as Rust declares it.
+use linked::{Counts, Found, Part, Recovery, RecoveryReply, Repaired, Reply, Transaction};
 use std::fmt::Write;
 use std::fs;
 use std::mem::{offset_of, size_of};
@@ -51,6 +51,11 @@ fn the_example_prints_what_it_should() {
     prints_what_it_should("examples", "save");
 }
 
+#[test]
+fn the_example_of_set_ups_prints_what_it_should() {
+    prints_what_it_should("examples", "setups");
+}
+
 /// Records and replies go through memory: every number of them is as it should be, after every call that takes or makes one.
 #[test]
 fn records_of_two_modules() {
@@ -68,7 +73,7 @@ macro_rules! layout {
 }
 
 /// The refusals of the papers by their names in the header.
-const REFUSALS: [(&str, usize); 20] = [
+const REFUSALS: [(&str, usize); 23] = [
     ("SHAPE", 1),
     ("LENGTH", 2),
     ("NO_HEADER", 3),
@@ -89,6 +94,9 @@ const REFUSALS: [(&str, usize); 20] = [
     ("TOO_MANY", 27),
     ("TWO_LOST", 28),
     ("PHASE", 29),
+    ("NO_SETUP", 31),
+    ("SETUP_NUMBER", 32),
+    ("SETUP_SIZE", 33),
 ];
 
 #[test]
@@ -99,6 +107,7 @@ fn structs_and_numbers_are_the_same() {
     same.extend(layout!(pool_recovery, Recovery, id, work, phase));
     same.extend(layout!(pool_recovery_reply, RecoveryReply, kind, value, recovery));
     same.extend(layout!(pool_part, Part, refusal, offset, length));
+    same.extend(layout!(pool_found, Found, refusal, found, address));
     same.extend(layout!(pool_counts, Counts, refusal, objects, damaged, broken, columns));
     same.extend(layout!(pool_repaired, Repaired, refusal, altered));
     let kinds = ["REFUSED", "ADDRESS", "TAKEN", "STARTED", "STORED", "BARRIER", "DONE"];
@@ -107,8 +116,9 @@ fn structs_and_numbers_are_the_same() {
     let header = fs::read_to_string(repository().join("include/pool.h")).unwrap();
     assert_eq!(header.matches("\n    POOL_REFUSED_").count(), REFUSALS.len());
     same.extend(REFUSALS.map(|(name, number)| (format!("POOL_REFUSED_{name}"), number)));
-    let limits = [("STAGING", 2032), ("BODY", 496), ("ENTRIES", 127), ("INTERFACE_VERSION", 3)];
+    let limits = [("STAGING", 2032), ("BODY", 496), ("ENTRIES", 127), ("SETUPS", 10), ("SETUP_SIZE", 120), ("INTERFACE_VERSION", 4)];
     same.extend(limits.map(|(name, number)| (format!("POOL_{name}"), number)));
+    same.extend([0, 9].map(|number| (format!("POOL_SETUP_TAG({number})"), 100 + number)));
     same.extend([("2, 2, 1", 6144), ("15, 64, 16", 4_198_912)].map(|(shape, length)| (format!("POOL_SIZE({shape})"), length)));
 
     let mut program = "#include <stdio.h>\n#include \"pool.h\"\nint main(void)\n{\n".to_string();
@@ -162,6 +172,7 @@ fn c_type(rust: &str) -> &'static str {
         "Recovery" => "pool_recovery",
         "RecoveryReply" => "pool_recovery_reply",
         "Part" => "pool_part",
+        "Found" => "pool_found",
         "Counts" => "pool_counts",
         "Repaired" => "pool_repaired",
         other => panic!("{other} is not a type of the boundary"),

@@ -1,19 +1,21 @@
 //! The library against the reference: every answer, and every byte of pool, staging memory and record, over random
 //! pools and requests.
 use compare::calls::{compare, Answer, Call, Given};
-use compare::layout::{behind_body, fault, object_heads, objects, pool_id, pool_shape, put_headers, Fault, Shape, CELL, LARGEST, LOGS};
+use compare::layout::*;
 use compare::random::Random;
 use compare::{layout, pools, requests, times};
-use linked::Repaired;
+use linked::{Found, Repaired};
 use std::collections::{BTreeMap, BTreeSet};
 
 /// What each call can answer. `2` stands twice: "2 short" under 512 bytes, "2 length" after the headers. `25` stands for what is wrong with the
 /// object: "25 check"; "25 stray", bytes behind the body; "25 staged", such bytes in the entries alone. So does scrub's `0`: "0 stray" if it
-/// counted an object for such bytes alone. A repair's `0` altered no byte, its "0 altered" some.
-const ANSWERS: [(&str, &str); 15] = [
+/// counted an object for such bytes alone. A repair's `0` altered no byte, its "0 altered" some. `33` stands for the body that is not of 120
+/// bytes: "33 given", "33 found".
+const ANSWERS: [(&str, &str); 18] = [
     ("format", "0, 1, 2 short, 2 length"),
     ("mend", "0, 2 short, 3, 4, 2 length"),
     ("look", "0, 2 short, 3, 4, 2 length, 21, 5, 23, 24, 25 check, 25 stray"),
+    ("look_up", "found, absent, 2 short, 3, 4, 2 length, 21, 23"),
     ("scrub", "0, 0 stray, 2 short, 3, 4, 2 length, 21"),
     ("repair", "0, 0 altered, 2 short, 3, 4, 2 length, 21, 8, 28"),
     ("begin", "taken, 2 short, 3, 4, 2 length, 21"),
@@ -23,6 +25,8 @@ const ANSWERS: [(&str, &str); 15] = [
     ("commit", "started, done, 2 short, 3, 4, 2 length, 9, 10, 11, 29, 21"),
     ("commit_step", "stored, barrier, done, 2 short, 3, 4, 2 length, 9, 10, 11, 29, 21"),
     ("commit_advance", "barrier, done, 2 short, 3, 4, 2 length, 9, 10, 11, 29, 21"),
+    ("save", "address, taken, 32, 33 given, 2 short, 3, 4, 2 length, 9, 21, 23, 25 check, 25 stray, 33 found, 26"),
+    ("recall", "0, 32, 2 short, 3, 4, 2 length, 21, 23, 31, 25 check, 25 stray, 33 found"),
     ("recover", "started, done, 2 short, 3, 4, 2 length, 22"),
     ("recover_step", "stored, barrier, done, 2 short, 3, 4, 2 length, 10, 11, 29"),
     ("recover_advance", "barrier, done, 2 short, 3, 4, 2 length, 10, 11, 29"),
@@ -44,6 +48,8 @@ fn name(call: &Call, given: &Given, answer: Answer) -> String {
         (_, (25, _)) => format!("25 {}", cause(call, given)),
         (Answer::Counts(counts), (0, _)) => counted(counts.damaged, &faults(&given.pool)).to_string(),
         (Answer::Repaired(Repaired { refusal: 0, altered: 1.. }), _) => "0 altered".to_string(),
+        (Answer::Found(found @ Found { refusal: 0, .. }), _) => looked_up(call, &given.pool, found).to_string(),
+        (_, (33, _)) => if is_body_given(call) { "33 given" } else { "33 found" }.to_string(),
         (_, (0, Some(kind))) => KINDS[kind].to_string(),
         (_, (n, _)) => n.to_string(),
     }
@@ -59,12 +65,27 @@ fn counted(damaged: usize, faults: &[Fault]) -> &'static str {
     }
 }
 
+/// Look-up answers the address that the tests' own reader finds.
+fn looked_up(call: &Call, pool: &[u8], found: Found) -> &'static str {
+    let &Call::LookUp { tag, from } = call else { panic!("{} answers {found:?}", call.name()) };
+    let shape = pool_shape(pool).expect("a valid header");
+    let first = tagged(shape, pool, tag).into_iter().find(|&address| address >= from);
+    assert_eq!((found.found, found.address), first.map_or((0, 0), |address| (1, address)));
+    first.map_or("absent", |_| "found")
+}
+
+/// Whether a save is given a body that is not a set-up's.
+fn is_body_given(call: &Call) -> bool {
+    matches!(call, Call::Save { body, .. } if body.len() != SETUP_SIZE)
+}
+
 /// What is wrong with the object that a call refuses with 25, by the tests' own reader.
 fn cause(call: &Call, given: &Given) -> &'static str {
     let shape = pool_shape(&given.pool).expect("a valid header");
     let (address, pool) = match *call {
         Call::Look(address) => (address, given.pool.clone()),
         Call::Write { address, .. } | Call::Free(address) => (address, requests::view(given)),
+        Call::Save { number, .. } | Call::Recall(number) => (tagged(shape, &given.pool, setup_tag(number))[0], given.pool.clone()),
         _ => panic!("{} answers 25", call.name()),
     };
     let at = shape.cell(address);
@@ -173,8 +194,7 @@ impl Comparison {
         assert_eq!(self.answer(&Call::Scrub, &mut given), if struck.is_empty() { "0" } else { "0 stray" });
         for z in 0..shape.zones {
             for at in object_heads(shape, &given.pool, z) {
-                let address = z * shape.cells() + (at - shape.zone(z)) / CELL;
-                self.make_on_object(&given, address, fault(&given.pool, at).is_some());
+                self.make_on_object(&given, shape.address(z, at), fault(&given.pool, at).is_some());
             }
         }
     }
@@ -314,7 +334,7 @@ impl Comparison {
 #[test]
 fn calls_on_random_pools() {
     let mut comparison = Comparison::new(1);
-    for _ in 0..100_000 * times() {
+    for _ in 0..115_000 * times() {
         let shape = pools::shape(&mut comparison.random);
         let mut given = requests::given(&mut comparison.random, shape);
         let calls = comparison.random.from_to(1, 12);

@@ -1,9 +1,9 @@
 //! Power cuts: commits and recoveries of the library over a model of non-volatile memory. Whatever a cut leaves, the
 //! first recovery that ends must give a sound pool, with all objects old if no seal of the commit had reached memory,
 //! else all new; and every lost page is then rebuilt.
-use compare::driver::{commit, commit_steps, recover, steps_to_sealed};
+use compare::driver::{commit, commit_with_random_cuts, recover, steps_to_sealed, Ended};
 use compare::judge::{judge, lose_pages};
-use compare::layout::{get, objects, Object, Shape, LOGS};
+use compare::layout::{objects, Object, Shape};
 use compare::memory::{Image, Memory};
 use compare::random::Random;
 use compare::staged::{change, Change, Staged};
@@ -84,7 +84,7 @@ impl Explorer<'_> {
         let Explorer { entries, random, known, left, counts, .. } = self;
         let mut keep = |image: &Image| {
             counts.subsets += 1;
-            let new = sealed || cuts == 1 && has_seal(image);
+            let new = sealed || cuts == 1 && image.has_seal();
             if known.insert((image.key, new)) {
                 left.push(Left { image: image.clone(), new, cuts });
             }
@@ -115,10 +115,6 @@ impl Explorer<'_> {
 fn seeded(seed: u64) -> Random {
     println!("seed {seed}");
     Random::new(seed)
-}
-
-fn has_seal(image: &Image) -> bool {
-    LOGS.iter().any(|&log| get(&image.pool, log, 8) != 0)
 }
 
 fn staged(pool: &[u8], changes: &[Change]) -> Staged {
@@ -218,29 +214,12 @@ fn random_transaction(random: &mut Random, counts: &mut Counts, pool: Vec<u8>) -
         assert_eq!((reply.kind, reply.value), (linked::DONE, 0));
         return pool;
     }
-    let memory = cut_at_random(random, counts, pool, &staged, &old);
-    memory.seen().to_vec()
-}
-
-/// Commits; perhaps the power is cut, then recovers, perhaps cut again, until a recovery ends; and judges.
-fn cut_at_random(random: &mut Random, counts: &mut Counts, pool: Vec<u8>, staged: &Staged, old: &[Object]) -> Memory {
-    let entries = staged.transaction.count;
-    let cut_at = random.below(2 * commit_steps(entries));
-    let mut memory = Memory::new(Image::new(pool));
-    let done = commit(&mut memory, staged, |_, steps| steps != cut_at);
-    let mut left = (!done).then(|| memory.random_cut(random));
-    let new = done || cut_at >= steps_to_sealed(entries) || left.as_ref().is_some_and(has_seal);
-    while let Some(image) = left {
-        let cut_at = random.below(4 * entries + 10);
-        memory = Memory::new(image);
-        let done = recover(&mut memory, entries, |_, steps| steps != cut_at);
-        left = (!done).then(|| memory.random_cut(random));
-        counts.cuts += 1;
-        counts.subsets += 1;
-        counts.recoveries += 1;
-    }
-    judge(memory.seen(), if new { &staged.new } else { old });
+    let Ended { pool, new, cuts } = commit_with_random_cuts(random, pool, &staged);
+    judge(&pool, if new { &staged.new } else { &old });
     counts.commits += 1;
+    counts.cuts += cuts;
+    counts.subsets += cuts;
+    counts.recoveries += cuts;
     counts.pools += 1;
-    memory
+    pool
 }

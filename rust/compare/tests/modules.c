@@ -1,6 +1,6 @@
 /*
  * Two modules of one shape: a save on the first, cut when the seals are stored, and its recovery; what is begun there is offered to the
- * second. Prints every number of every reply: kind and value, then the record.
+ * second. Then a set-up on the first. Prints every number of every reply: kind and value, then the record.
  */
 #include <inttypes.h>
 #include <stdio.h>
@@ -46,6 +46,29 @@ static pool_recovery recover(pool_recovery r, uint8_t *pool)
     return shown_recovery("recover advance", pool_recover_advance(r, pool, LENGTH));
 }
 
+/* Every call of set-ups, and the look-up; also refused. */
+static void set_up(uint8_t *pool)
+{
+    static const uint8_t setup[POOL_SETUP_SIZE] = {1, 2, 3};
+    shown("save of set-up 10", pool_save(pool, LENGTH, staging, POOL_STAGING, POOL_SETUPS, setup, POOL_SETUP_SIZE));
+    shown("save, a byte short", pool_save(pool, LENGTH, staging, POOL_STAGING, 9, setup, POOL_SETUP_SIZE - 1));
+    shown("save, staging a byte short", pool_save(pool, LENGTH, staging, POOL_STAGING - 1, 9, setup, POOL_SETUP_SIZE));
+    for (size_t i = 0; i < 2; i++) {
+        pool_transaction t = shown("save", pool_save(pool, LENGTH, staging, POOL_STAGING, 9, setup, POOL_SETUP_SIZE));
+        t = shown("commit", pool_commit(t, pool, LENGTH, staging, POOL_STAGING));
+        for (size_t call = 0; call < 5; call++)
+            t = shown("commit advance", pool_commit_advance(t, pool, LENGTH, staging, POOL_STAGING));
+        for (size_t from = 1; from < 4; from++) {
+            pool_found f = pool_look_up(pool, LENGTH, POOL_SETUP_TAG(9), from);
+            printf("look up from %zu: %zu %zu %zu\n", from, f.refusal, f.found, f.address);
+        }
+        for (size_t number = 8; number <= 10; number++) {
+            pool_part p = pool_recall(pool, LENGTH, number);
+            printf("recall %zu: %zu %zu %zu\n", number, p.refusal, p.offset, p.length);
+        }
+    }
+}
+
 static void show_objects(void)
 {
     for (size_t i = 0; i < 2; i++)
@@ -72,6 +95,8 @@ int main(void)
     r = recover(r, modules[0]);
     puts("on the other module");
     recover(r, modules[1]);
+    show_objects();
+    set_up(modules[0]);
     show_objects();
     return 0;
 }

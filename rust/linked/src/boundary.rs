@@ -1,11 +1,12 @@
 //! The functions of include/pool.h, one for one. The records are those of `reference`, which lie in memory as the C
 //! structs do.
-use reference::{Counts, Part, Recovery, RecoveryReply, Repaired, Reply, Transaction};
+use reference::{Counts, Found, Part, Recovery, RecoveryReply, Repaired, Reply, Transaction};
 
 extern "C" {
     pub fn pool_format(pool: *mut u8, pool_length: usize, rows: usize, cols: usize, zones: usize, id: u64) -> usize;
     pub fn pool_mend(pool: *mut u8, pool_length: usize) -> usize;
     pub fn pool_look(pool: *const u8, pool_length: usize, address: usize) -> Part;
+    pub fn pool_look_up(pool: *const u8, pool_length: usize, tag: u32, from: usize) -> Found;
     pub fn pool_scrub(pool: *const u8, pool_length: usize) -> Counts;
     pub fn pool_repair(pool: *mut u8, pool_length: usize, lost: *const u16, lost_length: usize) -> Repaired;
     pub fn pool_check(bytes: *const u8, length: usize) -> u32;
@@ -54,6 +55,16 @@ extern "C" {
         staging: *const u8,
         staging_length: usize,
     ) -> Reply;
+    pub fn pool_save(
+        pool: *const u8,
+        pool_length: usize,
+        staging: *mut u8,
+        staging_length: usize,
+        number: usize,
+        body: *const u8,
+        body_length: usize,
+    ) -> Reply;
+    pub fn pool_recall(pool: *const u8, pool_length: usize, number: usize) -> Part;
     pub fn pool_recover(pool: *const u8, pool_length: usize) -> RecoveryReply;
     pub fn pool_recover_step(recovery: Recovery, pool: *mut u8, pool_length: usize) -> RecoveryReply;
     pub fn pool_recover_advance(recovery: Recovery, pool: *mut u8, pool_length: usize) -> RecoveryReply;

@@ -6,7 +6,7 @@
 mod boundary;
 
 use boundary::*;
-pub use reference::{Counts, Part, Recovery, RecoveryReply, Repaired, Reply, Transaction};
+pub use reference::{Counts, Found, Part, Recovery, RecoveryReply, Repaired, Reply, Transaction};
 pub use reference::{ADDRESS, BARRIER, DONE, REFUSED, STARTED, STORED, TAKEN};
 
 /// The archive that is linked.
@@ -22,6 +22,10 @@ pub fn mend(pool: &mut [u8]) -> usize {
 
 pub fn look(pool: &[u8], address: usize) -> Part {
     unsafe { pool_look(pool.as_ptr(), pool.len(), address) }
+}
+
+pub fn look_up(pool: &[u8], tag: u32, from: usize) -> Found {
+    unsafe { pool_look_up(pool.as_ptr(), pool.len(), tag, from) }
 }
 
 pub fn scrub(pool: &[u8]) -> Counts {
@@ -65,6 +69,15 @@ pub fn commit_step(t: Transaction, pool: &mut [u8], staging: &[u8]) -> Reply {
 
 pub fn commit_advance(t: Transaction, pool: &mut [u8], staging: &[u8]) -> Reply {
     unsafe { pool_commit_advance(t, pool.as_mut_ptr(), pool.len(), staging.as_ptr(), staging.len()) }
+}
+
+pub fn save(pool: &[u8], staging: &mut [u8], number: usize, body: &[u8]) -> Reply {
+    let (s, n) = (staging.as_mut_ptr(), staging.len());
+    unsafe { pool_save(pool.as_ptr(), pool.len(), s, n, number, body.as_ptr(), body.len()) }
+}
+
+pub fn recall(pool: &[u8], number: usize) -> Part {
+    unsafe { pool_recall(pool.as_ptr(), pool.len(), number) }
 }
 
 pub fn recover(pool: &[u8]) -> RecoveryReply {

@@ -1,5 +1,5 @@
-//! The object pool of document 01 in plain Rust, with requests A.2, A.4, A.8 and A.9 of document 02, written from the documents alone.
-//! Tests compare the proved library with it, and the benchmark measures it as the baseline. It allocates nothing and uses
+//! The object pool of document 01 in plain Rust, with requests A.1, A.2, A.4, A.8 and A.9 of document 02, written from the documents
+//! alone. Tests compare the proved library with it, and the benchmark measures it as the baseline. It allocates nothing and uses
 //! no unsafe code.
 
 #![forbid(unsafe_code)]
@@ -13,6 +13,7 @@ mod pages;
 mod records;
 mod refusal;
 mod runs;
+mod setups;
 mod steps;
 mod transaction;
 mod writeset;
@@ -23,5 +24,6 @@ pub use header::mend;
 pub use pages::{format, repair, scrub};
 pub use records::*;
 pub use runs::look;
+pub use setups::{look_up, recall, save};
 pub use steps::{commit_step, recover, recover_step};
 pub use transaction::{allocate, begin, commit, free, write};

@@ -45,6 +45,15 @@ pub struct Part {
     pub length: usize,
 }
 
+/// Whether an object was found, 0 or 1, and its address. If refused, or if none was found, the address is 0.
+#[repr(C)]
+#[derive(Clone, Copy, Debug, PartialEq, Eq)]
+pub struct Found {
+    pub refusal: usize,
+    pub found: usize,
+    pub address: usize,
+}
+
 /// Objects met, damaged ones, broken zones, columns with wrong parity. If refused, the counts are 0.
 #[repr(C)]
 #[derive(Clone, Copy, Debug, PartialEq, Eq)]
@@ -78,7 +87,7 @@ impl Transaction {
     pub(crate) const CLOSED: usize = 1;
     pub(crate) const COMMITTING: usize = 2; // plus the number of steps made
 
-    /// Handed back by a refused begin. No call takes it: no pool has the id 0.
+    /// Handed back by a refused begin or save. No call takes it: no pool has the id 0.
     pub(crate) const NONE: Transaction = Transaction { id: 0, count: 0, phase: Transaction::CLOSED };
 
     /// The steps of its commit; an empty transaction is done in none.

@@ -1,5 +1,5 @@
-//! The refusals' numbers. A call gives the first that applies in the order 1, 2 (under 512 bytes), 3, 4, 2 (length), 9,
-//! 10, 11, 29, 21, 22, 6, 8, 5, 23, 24, 25, 7, 26, 28, 27.
+//! The refusals' numbers. A call gives the first that applies in the order 32, 33 (given), 1, 2 (under 512 bytes), 3, 4, 2 (length), 9, 10, 11,
+//! 29, 21, 22, 6, 8, 5, 23, 24, 31, 25, 33 (found), 7, 26, 28, 27.
 
 // From the input.
 pub const SHAPE: usize = 1; // format: rows, cols or zones outside its range, or id 0
@@ -24,3 +24,8 @@ pub const NO_ROOM: usize = 26; // no free run long enough
 pub const TOO_MANY: usize = 27; // more than 127 distinct words touched
 pub const TWO_LOST: usize = 28; // a mask with two bits or more
 pub const STATE: usize = 29; // staging or starting when not open, or a step when not committing or recovering
+
+// Of set-ups.
+pub const NO_SETUP: usize = 31; // recall: no object has the set-up's tag
+pub const SETUP_NUMBER: usize = 32; // number above 9
+pub const SETUP_SIZE: usize = 33; // body not 120 bytes, given or found

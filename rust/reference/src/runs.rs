@@ -158,7 +158,12 @@ pub fn is_damaged(pool: &[u8], Run { offset, head, .. }: Run) -> bool {
 
 /// Look: the object's body as a part of the pool, committed bytes only.
 pub fn look(pool: &[u8], address: usize) -> Part {
-    match find_committed(pool, address) {
+    part(find_committed(pool, address))
+}
+
+/// The part of the pool that holds the object's body.
+pub fn part(object: Result<Run, usize>) -> Part {
+    match object {
         Ok(Run { offset, head, .. }) => Part { refusal: 0, offset: offset + HEAD, length: head.body },
         Err(refusal) => Part { refusal, offset: 0, length: 0 },
     }

@@ -67,7 +67,7 @@ fn decoded(t: Transaction) -> transaction::Transaction
 }
 
 // The reply that goes out.
-pub fn encoded(r: transaction::Reply) -> Reply
+pub(crate) fn encoded(r: transaction::Reply) -> Reply
     requires { ⌜ Fits64 (phaseOut (phaseOf (r .transaction .txn .phase))) ⌝ }
     ensures { λ x. ⌜ x ≡ replyOut (answerOf (r .answer)) (transactionOf (r .transaction)) ⌝ }
 {

@@ -1,0 +1,4 @@
+pub mod ErrorExamples
+pub mod Errors
+pub mod Places
+pub mod Lines

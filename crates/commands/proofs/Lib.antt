@@ -1,0 +1,4 @@
+pub mod Examples
+pub mod Obeying
+pub mod Lines
+pub mod Handing

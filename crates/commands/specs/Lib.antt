@@ -1,0 +1,3 @@
+pub mod Obey
+pub mod Lines
+pub mod Meaning

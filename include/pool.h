@@ -16,12 +16,12 @@
  * refused.
  *
  * Ten set-ups, 0 to 9, need no address and no tag: pool_save stands in place of pool_begin and the calls that stage, pool_recall in place of
- * pool_look. Tags 100 to 109 are theirs: leave these to them.
+ * pool_look. Tags 100 to 109 are theirs: leave these to them. pool_command reads a command line, *SAV n, *RCL n or SYSTem:ERRor?, and calls them.
  *
  * A transaction or a recovery belongs to the pool that it was begun on, and holds that pool's id: on a pool with another id it is refused.
  * Two pools with one id cannot be told from each other, so give each module an id of its own.
  *
- * The library needs memcpy and memset, has no data, runs at any address, and takes at most 1,536 bytes of stack. It uses the SSE2
+ * The library needs memcpy and memset, has no data, runs at any address, and takes at most 2,048 bytes of stack. It uses the SSE2
  * registers, which interrupt code must save, and the 128 bytes below the stack pointer, which interrupt code must leave alone. Between
  * two calls nothing is kept but what the caller holds.
  *
@@ -44,7 +44,7 @@ extern "C" {
 #endif
 
 /* The version of this interface: its records, names and numbers. */
-#define POOL_INTERFACE_VERSION 4
+#define POOL_INTERFACE_VERSION 5
 
 /* Bytes of staging memory that a transaction needs, bytes of the longest body, and entries of the longest transaction: distinct words. */
 #define POOL_STAGING 2032
@@ -55,6 +55,11 @@ extern "C" {
 #define POOL_SETUPS 10
 #define POOL_SETUP_SIZE 120
 #define POOL_SETUP_TAG(n) (100 + (uint32_t)(n))
+
+/* Bytes of the longest command line, errors that wait at most, and bytes of the longest line that the query prints. */
+#define POOL_LINE 80
+#define POOL_ERRORS 10
+#define POOL_ERROR_LINE 25
 
 /* Bytes of a pool of this shape. */
 #define POOL_SIZE(rows, cols, zones) ((18 + (size_t)(zones) * ((size_t)(rows) + 1) * (size_t)(cols)) * 256)
@@ -101,6 +106,24 @@ enum {
     POOL_REFUSED_NO_SETUP = 31,     /* recall: no object has the set-up's tag                                               */
     POOL_REFUSED_SETUP_NUMBER = 32, /* number above 9                                                                       */
     POOL_REFUSED_SETUP_SIZE = 33    /* body not 120 bytes: the one given, or that of the object found                       */
+};
+
+/* What a command line did. */
+enum {
+    POOL_OBEYED_NOTHING = 0,  /* nothing, but that an error may have been entered                              */
+    POOL_OBEYED_SAVING = 1,   /* a set-up is staged in the transaction handed back: commit it, as after pool_save */
+    POOL_OBEYED_RECALLED = 2, /* the set-up's bytes lie at this value of the pool, with this length            */
+    POOL_OBEYED_PRINTED = 3   /* a line of this length was printed                                             */
+};
+
+/* The errors of command lines: the SCPI numbers without their minus, so that 113 stands for -113. */
+enum {
+    POOL_ERROR_DATA_TYPE = 104,         /* the number is not all digits                           */
+    POOL_ERROR_MISSING_PARAMETER = 109, /* nothing, or only the blank, follows *SAV or *RCL       */
+    POOL_ERROR_UNDEFINED_HEADER = 113,  /* any other line, and every line of more than 80 bytes   */
+    POOL_ERROR_EXECUTION = 200,         /* the set-up was refused, for whatever reason            */
+    POOL_ERROR_OUT_OF_RANGE = 222,      /* the number is above 9                                  */
+    POOL_ERROR_QUEUE_OVERFLOW = 350     /* in the tenth place: further errors came, and are lost  */
 };
 
 /*
@@ -178,6 +201,28 @@ typedef struct {
     size_t refusal;
     size_t altered;
 } pool_repaired;
+
+/*
+ * The errors that wait, the oldest first; count tells how many. It goes in by value and comes back from each command; a caller keeps it between
+ * commands and starts with zeros. With more than ten errors, or one that is not of the six, it counts as empty. Places that are not used are
+ * not judged, and are zero in what comes back.
+ */
+typedef struct {
+    size_t count;
+    uint16_t errors[POOL_ERRORS];
+} pool_errors;
+
+/*
+ * What pool_command did, one of POOL_OBEYED_...; value is the offset of a recalled set-up, length its length or that of the printed line; both
+ * are 0 otherwise. The transaction is one that no call takes unless kind is POOL_OBEYED_SAVING.
+ */
+typedef struct {
+    size_t kind;
+    size_t value;
+    size_t length;
+    pool_errors errors;
+    pool_transaction transaction;
+} pool_obeyed;
 
 /* ---- The pool. pool_format and pool_mend answer 0, or the refusal. Pass a barrier after them and after pool_repair, before any commit. */
 
@@ -271,6 +316,17 @@ pool_reply pool_save(const uint8_t *pool, size_t pool_length, uint8_t *staging, 
 
 /* Where the 120 bytes of set-up `number` lie: committed bytes only. Refusals, in this order: 32, 2, 3, 4, 2, 21, 23, 31, 25, 33 (found). */
 pool_part pool_recall(const uint8_t *pool, size_t pool_length, size_t number);
+
+/*
+ * ---- Command lines. Obeys a line of at most 80 bytes, given without its line end: *SAV n and *RCL n, one blank before n, which is a number of
+ * digits from 0 to 9 and runs to the line's end; SYSTem:ERRor?, each word short (SYST, ERR) or long; letters in either case. *SAV stages the 120
+ * bytes at `setup`, which are looked at for a good *SAV alone; *RCL prints nothing and tells where the bytes lie; the query takes the oldest
+ * error out of the queue and prints it into `out` with a line feed, as in -113,"Undefined header", or 0,"No error". What lies past the buffer's
+ * end is left out; length is that of the whole line. An empty line does nothing. Any other line enters one error, and nothing else is done.
+ * Unless POOL_OBEYED_SAVING is answered, the staging memory is as given; unless POOL_OBEYED_PRINTED, the buffer is.
+ */
+pool_obeyed pool_command(const uint8_t *line, size_t line_length, const uint8_t *setup, size_t setup_length, pool_errors errors,
+                         const uint8_t *pool, size_t pool_length, uint8_t *staging, size_t staging_length, uint8_t *out, size_t out_length);
 
 /* ---- Recovery, after a power cut, before any other call on the pool. A recovery that is cut is started anew. */
 

@@ -1,3 +1,4 @@
 pub mod Reading
 pub mod Fits
 pub mod After
+pub mod Obeyed

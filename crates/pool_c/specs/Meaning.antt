@@ -1,7 +1,8 @@
 -- What the numbers of include/pool.h mean in 01's terms. Each record goes in by its numbers, and each outcome goes out as numbers, with the
 -- bytes that the call leaves. Assumes nothing.
-use Prim.Native.Nat.{ℕ, zero, suc, _+_, _*_, _/_, _%_, _^_, _<_}
-use mathlib.Core.List.{List}
+use Prim.Native.Nat.{ℕ, zero, suc, _+_, _-_, _*_, _/_, _%_, _^_, _<_}
+use mathlib.Core.List.{List, _++_}
+use lib.ListN.{length, replicate}
 use Rattle.rules.specs.Staging as Staging
 use Rattle.rules.specs.Staging.{Phase, closed, committing, live}
 use Rattle.rules.specs.Answer.{After, Answer, Changed, Given}
@@ -15,6 +16,8 @@ use Rattle.powercut.specs.Steps.{Remedy, clear, neither, nothing, replay}
 use Rattle.powercut.specs.Recovery as Recovering
 use Rattle.powercut.specs.Recovery.{Progress, RecoveryAfter, finished, recovering}
 use Rattle.answers.specs.Meaning.{kindOf, valueOf}
+use Rattle.errors.specs.Errors.{Queue, judged, queueLimit}
+use Rattle.commands.specs.Obey as Obeying
 use Rattle.pool_c.specs.declared.pools.Repaired.{Repaired}
 use Rattle.pool_c.specs.declared.pools.Part.{Part}
 use Rattle.pool_c.specs.declared.pools.Counts.{Counts}
@@ -23,6 +26,8 @@ use Rattle.pool_c.specs.declared.transactions.Reply.{Reply}
 use Rattle.pool_c.specs.declared.recoveries.Recovery.{Recovery}
 use Rattle.pool_c.specs.declared.recoveries.RecoveryReply.{RecoveryReply}
 use Rattle.pool_c.specs.declared.tagged.Found.{Found}
+use Rattle.pool_c.specs.declared.command.Errors.{Errors}
+use Rattle.pool_c.specs.declared.command.Obeyed.{Obeyed}
 
 -- A number of 8 bytes.
 abbrev pub Fits64 : ℕ → Type 0
@@ -131,3 +136,30 @@ abbrev pub foundOut : Tagging.LookUp → Found
 foundOut (Tagging.at a) = record { refusal = 0; found = 1; address = a }
 foundOut Tagging.absent = record { refusal = 0; found = 0; address = 0 }
 foundOut (Tagging.refused n) = record { refusal = n; found = 0; address = 0 }
+
+-- ---- The command lines.
+
+-- The errors that wait: how many, and in ten places; those not used are zero in what goes out.
+abbrev pub errorsIn : Errors → Queue
+errorsIn e = judged (e .count) (e .errors)
+
+abbrev pub errorsOut : Queue → Errors
+errorsOut q = record { count = length q; errors = q ++ replicate (queueLimit - length q) 0 }
+
+-- What was done: its kind, value, length and transaction, beside the errors that wait.
+abbrev pub doneOut : Errors → Obeying.Done → Obeyed
+doneOut e Obeying.nothing = record { kind = 0; value = 0; length = 0; errors = e; transaction = transactionOut Staging.unusable }
+doneOut e (Obeying.saving t) = record { kind = 1; value = 0; length = 0; errors = e; transaction = transactionOut t }
+doneOut e (Obeying.recalled at n) = record { kind = 2; value = at; length = n; errors = e; transaction = transactionOut Staging.unusable }
+doneOut e (Obeying.printed n) = record { kind = 3; value = 0; length = n; errors = e; transaction = transactionOut Staging.unusable }
+
+-- The transaction that is handed back, if any, goes out in 8-byte numbers.
+abbrev pub DoneFits : Obeying.Done → Type 0
+DoneFits Obeying.nothing = Unit {0}
+DoneFits (Obeying.saving t) = Fits64 (phaseOut (t .phase))
+DoneFits (Obeying.recalled at n) = Unit {0}
+DoneFits (Obeying.printed n) = Unit {0}
+
+-- What a line hands back: the record, and the bytes of staging and of the buffer.
+abbrev pub obeyedOut : Obeying.Obeyed → Obeyed × List ℕ × List ℕ
+obeyedOut x = (doneOut (errorsOut (x .queue)) (x .done), x .staging, x .out)

@@ -6,7 +6,7 @@ ghost use Rattle.powercut.specs.Commit.{commitOn, commitStart, commitStep};
 ghost use Rattle.answers.specs.Meaning.{answerOf};
 ghost use Rattle.record.specs.Meaning.{phaseOf};
 ghost use Rattle.transaction.specs.Meaning.{transactionOf};
-ghost use Rattle.pool_c.specs.Meaning.{afterOut, Fits64, givenIn, phaseIn, phaseOut, replyOut, startOut, transactionIn};
+ghost use Rattle.pool_c.specs.Meaning.{afterOut, Fits64, givenIn, phaseIn, phaseOut, replyOut, startOut, transactionIn, transactionOut};
 use answers::kind;
 use answers::value;
 use record::Phase;
@@ -66,23 +66,31 @@ fn decoded(t: Transaction) -> transaction::Transaction
     transaction::Transaction { txn }
 }
 
+// The transaction that goes out.
+pub(crate) fn handed_out(t: transaction::Transaction) -> Transaction
+    requires { ⌜ Fits64 (phaseOut (phaseOf (t .txn .phase))) ⌝ }
+    ensures { λ r. ⌜ r ≡ transactionOut (transactionOf t) ⌝ }
+{
+    let txn = t.txn;
+    let phase = txn.phase;
+    Transaction {
+        id: txn.id,
+        count: txn.count,
+        phase: phase_out(phase),
+    }
+}
+
 // The reply that goes out.
 pub(crate) fn encoded(r: transaction::Reply) -> Reply
     requires { ⌜ Fits64 (phaseOut (phaseOf (r .transaction .txn .phase))) ⌝ }
     ensures { λ x. ⌜ x ≡ replyOut (answerOf (r .answer)) (transactionOf (r .transaction)) ⌝ }
 {
     let answer = r.answer;
-    let handed = r.transaction;
-    let txn = handed.txn;
-    let phase = txn.phase;
+    let transaction = r.transaction;
     Reply {
         kind: kind(answer),
         value: value(answer),
-        transaction: Transaction {
-            id: txn.id,
-            count: txn.count,
-            phase: phase_out(phase),
-        },
+        transaction: handed_out(transaction),
     }
 }
 

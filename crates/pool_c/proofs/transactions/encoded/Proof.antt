@@ -4,7 +4,7 @@ use Rattle.pool_c.proofs.transactions.encoded.Statement.{statement}
 use Rattle.pool_c.proofs.transactions.encoded.Tie as tie
 
 returns : tie.Need-returns
-returns c = rw (c .before .before .kind .ensures, c .before .value .ensures, c .phase-out .ensures)
+returns c = rw (c .before .before .kind .ensures, c .before .value .ensures, c .handed-out .ensures)
 
 pub encoded-spec : {M : Type 1} → statement M
 encoded-spec =

@@ -1,5 +1,5 @@
 //! The two implementations behind one table of functions, so that both are called alike.
-use reference::{Counts, Found, Part, Recovery, RecoveryReply, Repaired, Reply, Transaction};
+use reference::{Counts, Errors, Found, Obeyed, Part, Recovery, RecoveryReply, Repaired, Reply, Transaction};
 
 #[allow(clippy::type_complexity)] // the signatures of pool.h
 pub struct Library {
@@ -16,6 +16,7 @@ pub struct Library {
     pub commit_advance: fn(Transaction, &mut [u8], &[u8]) -> Reply,
     pub save_setup: fn(&[u8], &mut [u8], usize, &[u8]) -> Reply,
     pub recall: fn(&[u8], usize) -> Part,
+    pub command: fn(&[u8], &[u8], Errors, &[u8], &mut [u8], &mut [u8]) -> Obeyed,
     pub recover: fn(&[u8]) -> RecoveryReply,
     pub recover_step: fn(Recovery, &mut [u8]) -> RecoveryReply,
     pub recover_advance: fn(Recovery, &mut [u8]) -> RecoveryReply,
@@ -37,6 +38,7 @@ macro_rules! library {
             commit_advance: $from::commit_advance,
             save_setup: $from::save,
             recall: $from::recall,
+            command: $from::command,
             recover: $from::recover,
             recover_step: $from::recover_step,
             recover_advance: $from::recover_advance,

@@ -79,6 +79,7 @@ fn run(number: usize) -> Vec<Row> {
         saves::saves,
         commit::recoveries,
         setups::setups,
+        setups::commands,
     ];
     groups.into_iter().flat_map(|group| group()).collect()
 }

@@ -1,9 +1,9 @@
-//! Rows over set-ups: the look-up by tag, a save as it is staged, and a recall.
+//! Rows over set-ups: the look-up by tag, a save as it is staged, and a recall; and over the command lines that stand before them.
 use crate::fixture::{filled, nearly_full, Pool, LARGEST, SMALL};
 use crate::library::{Library, Way, PLAIN, PROVED};
 use crate::measure::{best, timed};
 use crate::report::{Row, Unit};
-use reference::{Reply, ADDRESS, TAKEN};
+use reference::{Errors, Obeyed, Reply, ADDRESS, NOTHING, PRINTED, RECALLED, SAVING, TAKEN};
 use std::fmt::Debug;
 use std::hint::black_box;
 
@@ -20,14 +20,41 @@ pub fn setups() -> Vec<Row> {
             let there = with_setup(empty);
             let name = |what| format!("{what}, {} {fill}", shape.name());
             rows.extend([
-                row(name("look up a tag"), "found", |library, _| (library.look_up)(black_box(&there), TAG, 0)),
-                row(name("save a set-up, staged"), "by allocate", |library, staging| save(library, empty, staging, ADDRESS)),
-                row(name("save a set-up, staged"), "by write", |library, staging| save(library, &there, staging, TAKEN)),
-                row(name("recall a set-up"), "120 bytes", |library, _| (library.recall)(black_box(&there), NUMBER)),
+                row("set-up", name("look up a tag"), "found", |library, _| (library.look_up)(black_box(&there), TAG, 0)),
+                row("set-up", name("save a set-up, staged"), "by allocate", |library, staging| save(library, empty, staging, ADDRESS)),
+                row("set-up", name("save a set-up, staged"), "by write", |library, staging| save(library, &there, staging, TAKEN)),
+                row("set-up", name("recall a set-up"), "120 bytes", |library, _| (library.recall)(black_box(&there), NUMBER)),
             ]);
         }
     }
     rows
+}
+
+/// Lines that are read and enter an error, the query, and a save and a recall of a set-up that is there.
+pub fn commands() -> Vec<Row> {
+    let there = with_setup(&nearly_full(SMALL, BODY.len()).0);
+    let longest = [b"*SAV ".as_slice(), &[b'0'; 74], b"x"].concat();
+    let row = |what: &str, size: &str, line: &[u8], kind| {
+        let what = format!("command line, {what}");
+        row("command", what, size, |library, staging| obey(library, line, &there, staging, kind))
+    };
+    let pool = format!("{} nearly full", SMALL.name());
+    vec![
+        row("an error", "5 bytes", b"*IDN?", NOTHING),
+        row("an error", "80 bytes", &longest, NOTHING),
+        row("the query", "24 bytes", b"SYST:ERR?", PRINTED),
+        row(&format!("save, staged, {pool}"), "by write", b"*SAV 3", SAVING),
+        row(&format!("recall, {pool}"), "120 bytes", b"*RCL 3", RECALLED),
+    ]
+}
+
+/// One error waits. The answer, and what is printed.
+fn obey(library: &Library, line: &[u8], pool: &[u8], staging: &mut [u8], kind: usize) -> (Obeyed, [u8; 25]) {
+    let errors = Errors { count: 1, errors: [113, 0, 0, 0, 0, 0, 0, 0, 0, 0] };
+    let mut out = [0; 25];
+    let obeyed = (library.command)(black_box(line), &BODY, black_box(errors), black_box(pool), staging, &mut out);
+    assert_eq!(obeyed.kind, kind);
+    (obeyed, out)
 }
 
 /// The pool with the set-up saved.
@@ -45,7 +72,7 @@ fn save(library: &Library, pool: &[u8], staging: &mut [u8], kind: usize) -> Repl
 }
 
 /// Both must answer alike and leave the same staging memory.
-fn row<A: PartialEq + Debug>(what: String, size: &str, call: impl Fn(&Library, &mut [u8]) -> A) -> Row {
+fn row<A: PartialEq + Debug>(group: &'static str, what: String, size: &str, call: impl Fn(&Library, &mut [u8]) -> A) -> Row {
     let mut copies = [[0; 2032]; 2];
     let right = call(&PLAIN, &mut [0; 2032]);
     let [first, second] = &mut copies;
@@ -53,5 +80,5 @@ fn row<A: PartialEq + Debug>(what: String, size: &str, call: impl Fn(&Library, &
     let plain = timed(|| assert_eq!(call(&PLAIN, second), right));
     let times = best(vec![proved, plain]);
     assert_eq!(copies[0], copies[1]);
-    Row::new("set-up", what, size, Unit::Time, times[0], times[1])
+    Row::new(group, what, size, Unit::Time, times[0], times[1])
 }

@@ -2,12 +2,15 @@
 pub mod calls;
 pub mod code;
 pub mod driver;
+pub mod in_use;
 pub mod judge;
 pub mod layout;
+pub mod lines;
 pub mod memory;
 pub mod pools;
 pub mod random;
 pub mod requests;
+pub mod setups;
 pub mod staged;
 pub mod trace;
 

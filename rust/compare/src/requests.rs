@@ -2,6 +2,7 @@
 //! impossible ones.
 use crate::calls::{Call, Given};
 use crate::layout::*;
+use crate::lines::{self, Says};
 use crate::pools;
 use crate::random::Random;
 use linked::{Recovery, Transaction};
@@ -26,7 +27,9 @@ pub fn given(random: &mut Random, shape: Shape) -> Given {
     if random.once_in(16) {
         pools::damage_length(random, &mut pool);
     }
-    Given { pool, staging, transaction, recovery }
+    let errors = lines::errors(random);
+    let room = random.from_to(0, 40);
+    Given { pool, staging, transaction, recovery, errors, out: random.bytes(room) }
 }
 
 /// Staging memory with entries, and a record for it.
@@ -221,10 +224,26 @@ fn setup_number(random: &mut Random, shape: Shape, pool: &[u8]) -> usize {
     }
 }
 
-/// Mostly with a body of the right length.
-fn save(random: &mut Random, shape: Shape, pool: &[u8]) -> Call {
+/// A set-up's bytes, mostly as many as it has.
+fn setup(random: &mut Random) -> Vec<u8> {
     let length = if random.once_in(12) { random.pick(&[0, 1, 119, 121, 376, 496, 497]) } else { SETUP_SIZE };
-    Call::Save { number: setup_number(random, shape, pool), body: random.bytes(length) }
+    random.bytes(length)
+}
+
+fn save(random: &mut Random, shape: Shape, pool: &[u8]) -> Call {
+    let body = setup(random);
+    Call::Save { number: setup_number(random, shape, pool), body }
+}
+
+/// A line that saves or recalls, as the calls do, or any line.
+fn command(random: &mut Random, shape: Shape, pool: &[u8]) -> Call {
+    let number = setup_number(random, shape, pool);
+    let line = match random.below(4) {
+        0 if number < SETUPS => lines::line(random, Says::Save(number)),
+        1 if number < SETUPS => lines::line(random, Says::Recall(number)),
+        _ => lines::any_line(random),
+    };
+    Call::Command { line, setup: setup(random) }
 }
 
 /// The tag of a set-up, of any object, of free runs, or one that is nowhere; from the pool's first cell on, or from elsewhere.
@@ -251,7 +270,7 @@ pub fn staging_call(random: &mut Random, shape: Shape, given: &Given) -> Call {
 
 /// Any call on this pool.
 pub fn call(random: &mut Random, shape: Shape, given: &Given) -> Call {
-    match random.below(37) {
+    match random.below(40) {
         0 => format(random, shape),
         1 => Call::Mend,
         2 | 3 => Call::Look(address(random, shape, &given.pool)),
@@ -267,6 +286,7 @@ pub fn call(random: &mut Random, shape: Shape, given: &Given) -> Call {
         18 | 19 => save(random, shape, &given.pool),
         20 => Call::Recall(setup_number(random, shape, &given.pool)),
         21 | 22 => look_up(random, shape, &given.pool),
+        23..=25 => command(random, shape, &given.pool),
         _ => staging_call(random, shape, given),
     }
 }

@@ -1,10 +1,10 @@
 //! The library from C: the header, the example programs, a program with two modules, and the boundary as Rust declares it.
-use linked::{Counts, Found, Part, Recovery, RecoveryReply, Repaired, Reply, Transaction};
+use linked::{Counts, Errors, Found, Obeyed, Part, Recovery, RecoveryReply, Repaired, Reply, Transaction};
 use std::fmt::Write;
 use std::fs;
 use std::mem::{offset_of, size_of};
 use std::path::{Path, PathBuf};
-use std::process::Command;
+use std::process::{Command, Stdio};
 
 fn repository() -> PathBuf {
     Path::new(env!("CARGO_MANIFEST_DIR")).join("../..")
@@ -23,11 +23,12 @@ fn compile(more: &[&Path]) {
     assert!(output.status.success(), "{command:?}\n{}", String::from_utf8_lossy(&output.stderr));
 }
 
-/// Compiles and links a program with the library, runs it, and answers what it prints.
+/// Compiles and links a program with the library, runs it, and answers what it prints. It is fed the file that stands beside it, if there is one.
 fn run(source: &Path, name: &str) -> String {
     let program = temporary(name);
     compile(&[source, Path::new(linked::ARCHIVE), Path::new("-o"), &program]);
-    let output = Command::new(&program).output().expect("the program runs");
+    let input = fs::File::open(source.with_extension("in")).map_or_else(|_| Stdio::null(), Stdio::from);
+    let output = Command::new(&program).stdin(input).output().expect("the program runs");
     assert!(output.status.success(), "{name}: {}", output.status);
     String::from_utf8(output.stdout).expect("text")
 }
@@ -54,6 +55,11 @@ fn the_example_prints_what_it_should() {
 #[test]
 fn the_example_of_set_ups_prints_what_it_should() {
     prints_what_it_should("examples", "setups");
+}
+
+#[test]
+fn the_example_of_a_terminal_prints_what_it_should() {
+    prints_what_it_should("examples", "terminal");
 }
 
 /// Records and replies go through memory: every number of them is as it should be, after every call that takes or makes one.
@@ -99,6 +105,16 @@ const REFUSALS: [(&str, usize); 23] = [
     ("SETUP_SIZE", 33),
 ];
 
+/// The errors of command lines, likewise.
+const ERRORS: [(&str, usize); 6] = [
+    ("DATA_TYPE", 104),
+    ("MISSING_PARAMETER", 109),
+    ("UNDEFINED_HEADER", 113),
+    ("EXECUTION", 200),
+    ("OUT_OF_RANGE", 222),
+    ("QUEUE_OVERFLOW", 350),
+];
+
 #[test]
 fn structs_and_numbers_are_the_same() {
     let mut same: Vec<(String, usize)> = Vec::new();
@@ -110,14 +126,24 @@ fn structs_and_numbers_are_the_same() {
     same.extend(layout!(pool_found, Found, refusal, found, address));
     same.extend(layout!(pool_counts, Counts, refusal, objects, damaged, broken, columns));
     same.extend(layout!(pool_repaired, Repaired, refusal, altered));
+    same.extend(layout!(pool_errors, Errors, count, errors));
+    same.push(("sizeof(((pool_errors *)0)->errors)".into(), size_of_val(&Errors::NONE.errors)));
+    same.push(("((pool_errors){0, {UINT16_MAX}}).errors[0]".into(), usize::from(u16::MAX)));
+    same.extend(layout!(pool_obeyed, Obeyed, kind, value, length, errors, transaction));
     let kinds = ["REFUSED", "ADDRESS", "TAKEN", "STARTED", "STORED", "BARRIER", "DONE"];
     let numbers = [linked::REFUSED, linked::ADDRESS, linked::TAKEN, linked::STARTED, linked::STORED, linked::BARRIER, linked::DONE];
     same.extend(kinds.into_iter().zip(numbers).map(|(kind, number)| (format!("POOL_{kind}"), number)));
     let header = fs::read_to_string(repository().join("include/pool.h")).unwrap();
     assert_eq!(header.matches("\n    POOL_REFUSED_").count(), REFUSALS.len());
     same.extend(REFUSALS.map(|(name, number)| (format!("POOL_REFUSED_{name}"), number)));
-    let limits = [("STAGING", 2032), ("BODY", 496), ("ENTRIES", 127), ("SETUPS", 10), ("SETUP_SIZE", 120), ("INTERFACE_VERSION", 4)];
-    same.extend(limits.map(|(name, number)| (format!("POOL_{name}"), number)));
+    let done = [("NOTHING", linked::NOTHING), ("SAVING", linked::SAVING), ("RECALLED", linked::RECALLED), ("PRINTED", linked::PRINTED)];
+    assert_eq!(header.matches("\n    POOL_OBEYED_").count(), done.len());
+    same.extend(done.map(|(name, number)| (format!("POOL_OBEYED_{name}"), number)));
+    assert_eq!(header.matches("\n    POOL_ERROR_").count(), ERRORS.len());
+    same.extend(ERRORS.map(|(name, number)| (format!("POOL_ERROR_{name}"), number)));
+    let limits = [("STAGING", 2032), ("BODY", 496), ("ENTRIES", 127), ("SETUPS", 10), ("SETUP_SIZE", 120)];
+    let of_lines = [("LINE", 80), ("ERRORS", 10), ("ERROR_LINE", 25), ("INTERFACE_VERSION", 5)];
+    same.extend(limits.into_iter().chain(of_lines).map(|(name, number)| (format!("POOL_{name}"), number)));
     same.extend([0, 9].map(|number| (format!("POOL_SETUP_TAG({number})"), 100 + number)));
     same.extend([("2, 2, 1", 6144), ("15, 64, 16", 4_198_912)].map(|(shape, length)| (format!("POOL_SIZE({shape})"), length)));
 
@@ -175,6 +201,8 @@ fn c_type(rust: &str) -> &'static str {
         "Found" => "pool_found",
         "Counts" => "pool_counts",
         "Repaired" => "pool_repaired",
+        "Errors" => "pool_errors",
+        "Obeyed" => "pool_obeyed",
         other => panic!("{other} is not a type of the boundary"),
     }
 }

@@ -4,14 +4,14 @@ use compare::calls::{compare, Answer, Call, Given};
 use compare::layout::*;
 use compare::random::Random;
 use compare::{layout, pools, requests, times};
-use linked::{Found, Repaired};
+use linked::{Found, Obeyed, Repaired, NOTHING};
 use std::collections::{BTreeMap, BTreeSet};
 
 /// What each call can answer. `2` stands twice: "2 short" under 512 bytes, "2 length" after the headers. `25` stands for what is wrong with the
 /// object: "25 check"; "25 stray", bytes behind the body; "25 staged", such bytes in the entries alone. So does scrub's `0`: "0 stray" if it
 /// counted an object for such bytes alone. A repair's `0` altered no byte, its "0 altered" some. `33` stands for the body that is not of 120
-/// bytes: "33 given", "33 found".
-const ANSWERS: [(&str, &str); 18] = [
+/// bytes: "33 given", "33 found". A command line that did nothing but enter an error has that error's number, 350 if ten waited.
+const ANSWERS: [(&str, &str); 19] = [
     ("format", "0, 1, 2 short, 2 length"),
     ("mend", "0, 2 short, 3, 4, 2 length"),
     ("look", "0, 2 short, 3, 4, 2 length, 21, 5, 23, 24, 25 check, 25 stray"),
@@ -27,6 +27,7 @@ const ANSWERS: [(&str, &str); 18] = [
     ("commit_advance", "barrier, done, 2 short, 3, 4, 2 length, 9, 10, 11, 29, 21"),
     ("save", "address, taken, 32, 33 given, 2 short, 3, 4, 2 length, 9, 21, 23, 25 check, 25 stray, 33 found, 26"),
     ("recall", "0, 32, 2 short, 3, 4, 2 length, 21, 23, 31, 25 check, 25 stray, 33 found"),
+    ("command", "nothing, saving, recalled, printed, 104, 109, 113, 200, 222, 350"),
     ("recover", "started, done, 2 short, 3, 4, 2 length, 22"),
     ("recover_step", "stored, barrier, done, 2 short, 3, 4, 2 length, 10, 11, 29"),
     ("recover_advance", "barrier, done, 2 short, 3, 4, 2 length, 10, 11, 29"),
@@ -49,6 +50,7 @@ fn name(call: &Call, given: &Given, answer: Answer) -> String {
         (Answer::Counts(counts), (0, _)) => counted(counts.damaged, &faults(&given.pool)).to_string(),
         (Answer::Repaired(Repaired { refusal: 0, altered: 1.. }), _) => "0 altered".to_string(),
         (Answer::Found(found @ Found { refusal: 0, .. }), _) => looked_up(call, &given.pool, found).to_string(),
+        (Answer::Obeyed(obeyed), _) => done(call, obeyed),
         (_, (33, _)) => if is_body_given(call) { "33 given" } else { "33 found" }.to_string(),
         (_, (0, Some(kind))) => KINDS[kind].to_string(),
         (_, (n, _)) => n.to_string(),
@@ -72,6 +74,15 @@ fn looked_up(call: &Call, pool: &[u8], found: Found) -> &'static str {
     let first = tagged(shape, pool, tag).into_iter().find(|&address| address >= from);
     assert_eq!((found.found, found.address), first.map_or((0, 0), |address| (1, address)));
     first.map_or("absent", |_| "found")
+}
+
+/// What a command line did; without more, the newest error, unless the line is empty.
+fn done(call: &Call, obeyed: Obeyed) -> String {
+    let is_empty = matches!(call, Call::Command { line, .. } if line.is_empty());
+    match obeyed.kind {
+        NOTHING if !is_empty => obeyed.errors.errors[obeyed.errors.count - 1].to_string(),
+        kind => ["nothing", "saving", "recalled", "printed"][kind].to_string(),
+    }
 }
 
 /// Whether a save is given a body that is not a set-up's.
@@ -334,7 +345,7 @@ impl Comparison {
 #[test]
 fn calls_on_random_pools() {
     let mut comparison = Comparison::new(1);
-    for _ in 0..115_000 * times() {
+    for _ in 0..125_000 * times() {
         let shape = pools::shape(&mut comparison.random);
         let mut given = requests::given(&mut comparison.random, shape);
         let calls = comparison.random.from_to(1, 12);

@@ -1,9 +1,10 @@
 /*
  * Two modules of one shape: a save on the first, cut when the seals are stored, and its recovery; what is begun there is offered to the
- * second. Then a set-up on the first. Prints every number of every reply: kind and value, then the record.
+ * second. Then a set-up on the first, and command lines. Prints every number of every reply: kind and value, then the record.
  */
 #include <inttypes.h>
 #include <stdio.h>
+#include <string.h>
 
 #include "pool.h"
 
@@ -69,6 +70,26 @@ static void set_up(uint8_t *pool)
     }
 }
 
+/* Every kind of command line, with a queue that is handed on. */
+static void obey(const uint8_t *pool)
+{
+    static const char *const lines[] = {"", "*SAV 9", "*RCL 9", "*IDN?", "*RCL 8", "*SAV 9", "SYST:ERR?", "SYST:ERR?", "SYST:ERR?"};
+    static const uint8_t setup[POOL_SETUP_SIZE] = {4, 5, 6};
+    static pool_errors errors;
+    for (size_t i = 0; i < sizeof lines / sizeof lines[0]; i++) {
+        uint8_t out[POOL_ERROR_LINE];
+        pool_obeyed o = pool_command((const uint8_t *)lines[i], strlen(lines[i]), setup, sizeof setup, errors, pool, LENGTH, staging,
+                                     POOL_STAGING, out, sizeof out);
+        errors = o.errors;
+        printf("line %s: %zu %zu %zu (%zu", lines[i], o.kind, o.value, o.length, errors.count);
+        for (size_t place = 0; place < POOL_ERRORS; place++)
+            printf(" %" PRIu16, errors.errors[place]);
+        printf(") (%" PRIx64 " %zu %zu)\n", o.transaction.id, o.transaction.count, o.transaction.phase);
+        if (o.kind == POOL_OBEYED_PRINTED)
+            printf("%.*s", (int)o.length, (const char *)out);
+    }
+}
+
 static void show_objects(void)
 {
     for (size_t i = 0; i < 2; i++)
@@ -98,5 +119,6 @@ int main(void)
     show_objects();
     set_up(modules[0]);
     show_objects();
+    obey(modules[0]);
     return 0;
 }

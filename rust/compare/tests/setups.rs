@@ -1,34 +1,17 @@
 //! Set-ups 0 to 9, and the look-up by tag: worked numbers, the order of refusals, bad input, damage, power cuts; and random saves, recalls and
 //! other transactions against a plain array of ten. The three calls are made on the library and on the reference, with everything compared.
-use compare::calls::{compare, Answer, Call, Given};
-use compare::driver::{commit, commit_with_random_cuts, recover_with_random_cuts, steps_to_sealed, Ended};
+use compare::calls::{compare, Answer, Call, Given, NO_TRANSACTION};
+use compare::driver::{commit, recover_with_random_cuts, steps_to_sealed};
+use compare::in_use::InUse;
 use compare::judge::judge;
 use compare::layout::*;
 use compare::memory::{Image, Memory};
 use compare::random::Random;
-use compare::staged::{change, Change, Staged, STAGING};
-use compare::{pools, times};
+use compare::setups::*;
+use compare::staged::{Staged, STAGING};
+use compare::times;
 use linked::{Found, Part, RecoveryReply, Reply, Transaction, ADDRESS, BARRIER, DONE, REFUSED, STARTED, TAKEN};
 use std::collections::{BTreeMap, HashSet};
-
-const SHAPE: Shape = Shape { rows: 4, cols: 2, zones: 1 };
-const TWO_ZONES: Shape = Shape { rows: 1, cols: 1, zones: 2 };
-
-/// Handed back by a refused save: no call takes it.
-const NO_TRANSACTION: Transaction = Transaction { id: 0, count: 0, phase: 1 };
-
-/// With id 1, as format makes it.
-fn fresh(shape: Shape) -> Vec<u8> {
-    let Shape { rows, cols, zones } = shape;
-    let mut given = Given::new(vec![0xEE; shape.length()], Vec::new());
-    assert_eq!(compare(&Call::Format { rows, cols, zones, id: 1 }, &mut given, 0), Answer::Refusal(0));
-    given.pool
-}
-
-/// Set-up k of the worked numbers.
-fn setup(k: usize) -> Vec<u8> {
-    (0..SETUP_SIZE).map(|i| (k + 7 * i) as u8).collect()
-}
 
 /// A save with this staging memory, which is left as the save leaves it.
 fn save(pool: &[u8], staging: &mut Vec<u8>, number: usize, body: &[u8]) -> Reply {
@@ -102,18 +85,6 @@ fn look_up(pool: &[u8], tag: u32, from: usize) -> Result<Option<usize>, usize> {
 fn with_setup_3() -> Vec<u8> {
     let mut pool = fresh(SHAPE);
     assert_eq!(saved(&mut pool, 3, &setup(3)), (ADDRESS, 0, 26, 165));
-    pool
-}
-
-/// A pool made by hand: objects with these tags and bodies at the front of zone 0, then one free run.
-fn laid_out(shape: Shape, objects: &[(u32, &[u8])]) -> Vec<u8> {
-    let (mut pool, mut cell) = (fresh(shape), 0);
-    for (tag, body) in objects {
-        put_object(&mut pool, shape.cell(cell), *tag, body);
-        cell += object_cells(body.len());
-    }
-    put_free(&mut pool, shape.cell(cell), shape.cells() - cell);
-    put_parity(shape, &mut pool);
     pool
 }
 
@@ -258,109 +229,10 @@ fn from_everywhere() {
 
 // ---- The order of refusals.
 
-/// What can be wrong with a request for set-up 3.
-#[derive(Clone, Copy, Debug, PartialEq, Eq)]
-enum Wrong {
-    Number,
-    Given,
-    Short,
-    NoHeader,
-    HeadersDiffer,
-    Length,
-    Staging,
-    Sealed,
-    Broken,
-    Absent,
-    Damaged,
-    Found,
-    NoRoom,
-}
-
-use Wrong::*;
-
-/// In the order in which they can be put into one request, with the refusal of each.
-const ALL: [(Wrong, usize); 13] = [
-    (NoRoom, 26),
-    (Found, 33),
-    (Absent, 31),
-    (Damaged, 25),
-    (Broken, 23),
-    (Sealed, 21),
-    (Length, 2),
-    (HeadersDiffer, 4),
-    (NoHeader, 3),
-    (Short, 2),
-    (Staging, 9),
-    (Given, 33),
-    (Number, 32),
-];
-
-/// The order in which each call judges them.
-const SAVE: [Wrong; 12] = [Number, Given, Short, NoHeader, HeadersDiffer, Length, Staging, Sealed, Broken, Damaged, Found, NoRoom];
-const RECALL: [Wrong; 10] = [Number, Short, NoHeader, HeadersDiffer, Length, Sealed, Broken, Absent, Damaged, Found];
-const LOOK_UP: [Wrong; 6] = [Short, NoHeader, HeadersDiffer, Length, Sealed, Broken];
-
-/// A request: pool, staging memory, number and body.
-struct Request {
-    pool: Vec<u8>,
-    staging: usize,
-    number: usize,
-    body: Vec<u8>,
-}
-
-impl Request {
-    /// R 1, C 1, Z 2 with set-up 3 in zone 0, and room for another one in zone 1.
-    fn new() -> Request {
-        Request { pool: laid_out(TWO_ZONES, &[(103, &setup(3))]), staging: STAGING, number: 3, body: setup(4) }
-    }
-
-    fn put(&mut self, wrong: Wrong) {
-        let Request { pool, staging, number, body } = self;
-        let at = TWO_ZONES.zone(0);
-        match wrong {
-            NoRoom => put_object(pool, TWO_ZONES.zone(1), 7, &[1; 240]),
-            Found => put_object(pool, at, 103, &setup(3)[..119]),
-            Absent => pool[at + 12] = 99,
-            Damaged => pool[at + 20] ^= 1,
-            Broken => pool[TWO_ZONES.zone(1)] = 9,
-            Sealed => pool[LOGS[1] + 7] = 0x80,
-            Length => pool.push(0),
-            HeadersDiffer => pool[..PAGE].copy_from_slice(&header([1, 1, 2, 1], 2)),
-            NoHeader => pool[..2 * PAGE].fill(0),
-            Short => pool.truncate(511),
-            Staging => *staging = 10,
-            Given => body.truncate(119),
-            Number => *number = 10,
-        }
-    }
-}
-
-/// The refusal of the first that is wrong, in this order, or 0. An object that is absent is neither damaged nor too short, and one that is there
-/// needs no room.
-fn first(order: &[Wrong], wrong: &[(Wrong, usize)]) -> usize {
-    let is = |which: Wrong| wrong.iter().any(|&(other, _)| other == which);
-    let counts = |which: Wrong| match which {
-        Damaged | Found => is(which) && !is(Absent),
-        NoRoom => is(NoRoom) && is(Absent),
-        _ => is(which),
-    };
-    let first = order.iter().find(|&&which| counts(which));
-    first.map_or(0, |&first| wrong.iter().find(|&&(which, _)| which == first).unwrap().1)
-}
-
 /// Whatever is wrong at once, each call gives the first.
 #[test]
 fn the_first_refusal_is_given() {
-    for subset in 0..1 << ALL.len() {
-        let wrong: Vec<(Wrong, usize)> =
-            ALL.into_iter().enumerate().filter(|(i, _)| subset >> i & 1 == 1).map(|(_, wrong)| wrong).collect();
-        let is = |which: Wrong| wrong.iter().any(|&(other, _)| other == which);
-        if is(NoHeader) && is(HeadersDiffer) {
-            continue; // no pool has both
-        }
-        let mut request = Request::new();
-        wrong.iter().for_each(|&(which, _)| request.put(which));
-        let Request { pool, staging, number, body } = request;
+    for (Request { pool, staging, number, body }, wrong) in wrong_requests() {
         assert_eq!(refusal(&pool, staging, number, &body), first(&SAVE, &wrong), "save: {wrong:?}");
         assert_eq!(recall(&pool, number).err().unwrap_or(0), first(&RECALL, &wrong), "recall: {wrong:?}");
         assert_eq!(look_up(&pool, 103, 0).err().unwrap_or(0), first(&LOOK_UP, &wrong), "look-up: {wrong:?}");
@@ -371,28 +243,6 @@ fn the_first_refusal_is_given() {
 
 /// Among them those that are a set-up's number modulo 256 or 2^32, and those whose tag would be one.
 const NUMBERS: [usize; 13] = [0, 3, 9, 10, 11, 103, 255, 259, 1 << 32, (1 << 32) + 3, usize::MAX - 96, usize::MAX - 1, usize::MAX];
-const BODIES: [usize; 11] = [0, 1, 119, 120, 121, 128, 376, 496, 497, 600, 65_656];
-const STAGINGS: [usize; 6] = [0, 10, 2_031, 2_032, 2_033, 4_096];
-
-/// Pools with set-ups 0, 3 and 9 on which calls are refused: with this number, and whether it stands before 9.
-fn refusing_pools() -> Vec<(usize, bool, Vec<u8>)> {
-    let whole = laid_out(SHAPE, &[(100, &setup(0)), (103, &setup(3)), (109, &setup(9))]);
-    let with = |change: &dyn Fn(&mut Vec<u8>)| {
-        let mut pool = whole.clone();
-        change(&mut pool);
-        pool
-    };
-    let mut pools: Vec<(usize, bool, Vec<u8>)> =
-        [0, 1, 256, 511, 512, 4_608, 7_167, 7_169].map(|length| (2, true, with(&|pool| pool.resize(length, 0)))).into();
-    pools.extend([0, 0xEE, 0xFF].map(|byte| (3, true, vec![byte; SHAPE.length()])));
-    pools.push((3, true, Random::new(1).bytes(SHAPE.length())));
-    pools.push((4, true, with(&|pool| pool[PAGE..2 * PAGE].copy_from_slice(&header([4, 2, 1, 1], 2)))));
-    pools.extend([512, 519, 2_560, 2_567].map(|at| (21, false, with(&|pool| pool[at] = 0x80))));
-    pools.extend([0, 3, 9].map(|cell| (23, false, with(&|pool| pool[SHAPE.cell(cell)] = 9))));
-    pools.push((0, false, whole));
-    pools
-}
-
 #[test]
 fn bad_input() {
     for (refused, before_staging, pool) in refusing_pools() {
@@ -447,125 +297,47 @@ fn saves_cut_after_every_step() {
     println!("seed 11, {recoveries} recoveries");
 }
 
-/// A pool in use: its objects, and what its ten places must hold.
-struct InUse {
-    pool: Vec<u8>,
-    objects: Vec<Object>,
-    places: [Option<Vec<u8>>; SETUPS],
-}
-
 /// How often each thing came to pass.
 type Counts = BTreeMap<&'static str, usize>;
 
-impl InUse {
-    /// A sound pool without set-ups.
-    fn new(random: &mut Random) -> InUse {
-        let shape = pools::shape(random);
-        let pool = pools::filled(random, shape);
-        let objects = objects(&pool).expect("a sound pool");
-        assert!(objects.iter().all(|object| !is_setup(object)));
-        InUse { pool, objects, places: Default::default() }
-    }
-
-    /// Whether a free run has room for a set-up.
-    fn has_room(&self) -> bool {
-        let shape = pool_shape(&self.pool).expect("a valid header");
-        (0..shape.zones).any(|z| runs(shape, &self.pool, z).0.iter().any(|run| !run.object && run.cells >= object_cells(SETUP_SIZE)))
-    }
-
-    /// A save, which is taken unless there is no room for a first one; it is committed, cut or dropped.
-    fn save(&mut self, random: &mut Random) -> &'static str {
-        let (number, body, length) = (random.below(SETUPS), random.bytes(SETUP_SIZE), random.pick(&[STAGING, STAGING, STAGING + 1, 4096]));
-        let mut staging = random.bytes(length);
-        let reply = save(&self.pool, &mut staging, number, &body);
-        let wanted = match (&self.places[number], self.has_room()) {
-            (None, false) => (REFUSED, 26),
-            (None, true) => (ADDRESS, reply.value),
-            (Some(_), _) => (TAKEN, 0),
-        };
-        assert_eq!((reply.kind, reply.value), wanted);
-        if reply.kind == REFUSED {
-            return "saves without room";
-        }
-        let staged = Staged::save(reply, staging, &self.objects, number, &body);
-        let ended = self.end(random, &staged);
-        if ended.new {
-            self.places[number] = Some(body);
-        }
-        match (ended.cuts, ended.new) {
-            (0, false) => "saves dropped",
-            (0, true) => "saves finished",
-            (_, false) => "saves cut, old",
-            (_, true) => "saves cut, new",
-        }
-    }
-
-    /// Another transaction, which spares the set-ups: objects with other tags come and go.
-    fn change_others(&mut self, random: &mut Random) -> &'static str {
-        let mut staged = Staged::new(&self.pool, &self.objects);
-        for _ in 0..random.from_to(1, 6) {
-            let others: Vec<Object> = staged.new.iter().filter(|object| !is_setup(object)).cloned().collect();
-            let change = change(random, &others);
-            if !names_setup(&change, &staged.new) {
-                staged.stage(&self.pool, &change);
-            }
-        }
-        if staged.transaction.count > 0 {
-            self.end(random, &staged);
-        }
-        "other transactions"
-    }
-
-    /// Drops the transaction, or commits it, perhaps with cuts and recoveries.
-    fn end(&mut self, random: &mut Random, staged: &Staged) -> Ended {
-        let pool = self.pool.clone();
-        let ended = match random.once_in(5) {
-            true => Ended { pool, new: false, cuts: 0 },
-            false => commit_with_random_cuts(random, pool, staged),
-        };
-        self.pool = ended.pool.clone();
-        if ended.new {
-            self.objects = staged.new.clone();
-        }
-        ended
-    }
-
-    /// A save with a number, a body or staging memory that is refused.
-    fn save_wrongly(&mut self, random: &mut Random) -> &'static str {
-        let (number, length, staging) = (random.below(SETUPS), SETUP_SIZE, STAGING);
-        let high = random.pick(&NUMBERS[3..]);
-        let other_length = random.pick(&BODIES.map(|length| if length == SETUP_SIZE { 0 } else { length }));
-        let short = random.pick(&STAGINGS[..3]);
-        let wrong = [(high, length, staging, 32), (number, other_length, staging, 33), (number, length, short, 9)];
-        let (number, length, staging, wanted) = random.pick(&wrong);
-        assert_eq!(refusal(&self.pool, staging, number, &random.bytes(length)), wanted);
-        "saves with wrong input"
-    }
-
-    /// The pool is sound and has these objects; each place is recalled, or gives 31, and is found or not.
-    fn judge(&self) {
-        judge(&self.pool, &self.objects);
-        for (number, place) in self.places.iter().enumerate() {
-            assert_eq!(recall(&self.pool, number), place.as_deref().ok_or(31), "place {number}");
-            let object = self.objects.iter().find(|object| object.tag == setup_tag(number));
-            assert_eq!(look_up(&self.pool, setup_tag(number), 0), Ok(object.map(|object| object.address)));
-        }
-        assert_eq!(recall(&self.pool, SETUPS), Err(32));
+/// A save, which is taken unless there is no room for a first one; it is committed, cut or dropped.
+fn save_in(in_use: &mut InUse, random: &mut Random) -> &'static str {
+    let (number, body, length) = (random.below(SETUPS), random.bytes(SETUP_SIZE), random.pick(&[STAGING, STAGING, STAGING + 1, 4096]));
+    let mut staging = random.bytes(length);
+    let reply = save(&in_use.pool, &mut staging, number, &body);
+    let wanted = match (&in_use.places[number], in_use.has_room()) {
+        (None, false) => (REFUSED, 26),
+        (None, true) => (ADDRESS, reply.value),
+        (Some(_), _) => (TAKEN, 0),
+    };
+    assert_eq!((reply.kind, reply.value), wanted);
+    match reply.kind {
+        REFUSED => "saves without room",
+        _ => in_use.end_save(random, reply, staging, number, body),
     }
 }
 
-fn is_setup(object: &Object) -> bool {
-    (setup_tag(0)..=setup_tag(9)).contains(&object.tag)
+/// A save with a number, a body or staging memory that is refused.
+fn save_wrongly(in_use: &InUse, random: &mut Random) -> &'static str {
+    let (number, length, staging) = (random.below(SETUPS), SETUP_SIZE, STAGING);
+    let high = random.pick(&NUMBERS[3..]);
+    let other_length = random.pick(&BODIES.map(|length| if length == SETUP_SIZE { 0 } else { length }));
+    let short = random.pick(&STAGINGS[..3]);
+    let wrong = [(high, length, staging, 32), (number, other_length, staging, 33), (number, length, short, 9)];
+    let (number, length, staging, wanted) = random.pick(&wrong);
+    assert_eq!(refusal(&in_use.pool, staging, number, &random.bytes(length)), wanted);
+    "saves with wrong input"
 }
 
-/// Whether this change is of a set-up.
-fn names_setup(change: &Change, objects: &[Object]) -> bool {
-    match change {
-        Change::Allocate { tag, .. } => (setup_tag(0)..=setup_tag(9)).contains(tag),
-        Change::Write { address, .. } | Change::Free { address } => {
-            objects.iter().any(|object| object.address == *address && is_setup(object))
-        }
+/// The pool is sound and has these objects; each place is recalled, or gives 31, and is found or not.
+fn judge_places(in_use: &InUse) {
+    judge(&in_use.pool, &in_use.objects);
+    for (number, place) in in_use.places.iter().enumerate() {
+        assert_eq!(recall(&in_use.pool, number), place.as_deref().ok_or(31), "place {number}");
+        let object = in_use.objects.iter().find(|object| object.tag == setup_tag(number));
+        assert_eq!(look_up(&in_use.pool, setup_tag(number), 0), Ok(object.map(|object| object.address)));
     }
+    assert_eq!(recall(&in_use.pool, SETUPS), Err(32));
 }
 
 /// Saves finished, cut, dropped and refused, and other transactions, in turn on one pool: whatever came before, the ten places hold what was
@@ -576,15 +348,15 @@ fn a_table_of_ten_places() {
     let mut random = Random::new(seed);
     for _ in 0..500 * times() {
         let mut in_use = InUse::new(&mut random);
-        in_use.judge();
+        judge_places(&in_use);
         for _ in 0..25 {
             let done = match random.below(8) {
-                0 => in_use.save_wrongly(&mut random),
+                0 => save_wrongly(&in_use, &mut random),
                 1 | 2 => in_use.change_others(&mut random),
-                _ => in_use.save(&mut random),
+                _ => save_in(&mut in_use, &mut random),
             };
             *counts.entry(done).or_default() += 1;
-            in_use.judge();
+            judge_places(&in_use);
         }
     }
     println!("seed {seed}, {counts:?}");

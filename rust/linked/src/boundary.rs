@@ -1,6 +1,6 @@
 //! The functions of include/pool.h, one for one. The records are those of `reference`, which lie in memory as the C
 //! structs do.
-use reference::{Counts, Found, Part, Recovery, RecoveryReply, Repaired, Reply, Transaction};
+use reference::{Counts, Errors, Found, Obeyed, Part, Recovery, RecoveryReply, Repaired, Reply, Transaction};
 
 extern "C" {
     pub fn pool_format(pool: *mut u8, pool_length: usize, rows: usize, cols: usize, zones: usize, id: u64) -> usize;
@@ -65,6 +65,19 @@ extern "C" {
         body_length: usize,
     ) -> Reply;
     pub fn pool_recall(pool: *const u8, pool_length: usize, number: usize) -> Part;
+    pub fn pool_command(
+        line: *const u8,
+        line_length: usize,
+        setup: *const u8,
+        setup_length: usize,
+        errors: Errors,
+        pool: *const u8,
+        pool_length: usize,
+        staging: *mut u8,
+        staging_length: usize,
+        out: *mut u8,
+        out_length: usize,
+    ) -> Obeyed;
     pub fn pool_recover(pool: *const u8, pool_length: usize) -> RecoveryReply;
     pub fn pool_recover_step(recovery: Recovery, pool: *mut u8, pool_length: usize) -> RecoveryReply;
     pub fn pool_recover_advance(recovery: Recovery, pool: *mut u8, pool_length: usize) -> RecoveryReply;

@@ -6,8 +6,9 @@
 mod boundary;
 
 use boundary::*;
-pub use reference::{Counts, Found, Part, Recovery, RecoveryReply, Repaired, Reply, Transaction};
+pub use reference::{Counts, Errors, Found, Obeyed, Part, Recovery, RecoveryReply, Repaired, Reply, Transaction};
 pub use reference::{ADDRESS, BARRIER, DONE, REFUSED, STARTED, STORED, TAKEN};
+pub use reference::{NOTHING, PRINTED, RECALLED, SAVING};
 
 /// The archive that is linked.
 pub const ARCHIVE: &str = env!("POOL_C_ARCHIVE");
@@ -78,6 +79,12 @@ pub fn save(pool: &[u8], staging: &mut [u8], number: usize, body: &[u8]) -> Repl
 
 pub fn recall(pool: &[u8], number: usize) -> Part {
     unsafe { pool_recall(pool.as_ptr(), pool.len(), number) }
+}
+
+pub fn command(line: &[u8], setup: &[u8], errors: Errors, pool: &[u8], staging: &mut [u8], out: &mut [u8]) -> Obeyed {
+    let (l, s, p) = ((line.as_ptr(), line.len()), (setup.as_ptr(), setup.len()), (pool.as_ptr(), pool.len()));
+    let (t, o) = ((staging.as_mut_ptr(), staging.len()), (out.as_mut_ptr(), out.len()));
+    unsafe { pool_command(l.0, l.1, s.0, s.1, errors, p.0, p.1, t.0, t.1, o.0, o.1) }
 }
 
 pub fn recover(pool: &[u8]) -> RecoveryReply {

@@ -73,6 +73,26 @@ pub struct Repaired {
     pub altered: usize,
 }
 
+/// The errors that wait, without their minus, the oldest first; `count` tells how many. What comes back has zeros in the places that are not used.
+#[repr(C)]
+#[derive(Clone, Copy, Debug, PartialEq, Eq)]
+pub struct Errors {
+    pub count: usize,
+    pub errors: [u16; 10],
+}
+
+/// What a command line did: the offset of a recalled set-up as the value, its length or that of the printed line, and the transaction of a save.
+/// Else value and length are 0, and the transaction is one that no call takes.
+#[repr(C)]
+#[derive(Clone, Copy, Debug, PartialEq, Eq)]
+pub struct Obeyed {
+    pub kind: usize,
+    pub value: usize,
+    pub length: usize,
+    pub errors: Errors,
+    pub transaction: Transaction,
+}
+
 // The kinds of a reply; its value is
 pub const REFUSED: usize = 0; // the refusal's number
 pub const ADDRESS: usize = 1; // the address of the object allocated
@@ -81,6 +101,16 @@ pub const STARTED: usize = 3; // 0
 pub const STORED: usize = 4; // the step's number, from 1
 pub const BARRIER: usize = 5; // the step's number, from 1
 pub const DONE: usize = 6; // the number of steps
+
+// What a command line did
+pub const NOTHING: usize = 0; // nothing, but that an error may have been entered
+pub const SAVING: usize = 1; // staged a set-up in the transaction handed back
+pub const RECALLED: usize = 2; // found a set-up
+pub const PRINTED: usize = 3; // printed a line
+
+impl Errors {
+    pub const NONE: Errors = Errors { count: 0, errors: [0; 10] };
+}
 
 impl Transaction {
     pub(crate) const OPEN: usize = 0;

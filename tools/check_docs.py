@@ -19,7 +19,7 @@ ENDINGS = r"(?:md|svg|rt|antt|rs|h|c|txt|sh|py|a|toml)"
 ALLOWED = set("""
     rt check staticlib version dev prove must-fail fmt objdump cargo cc python3 bash git clone cd run release offline test table
     stdin snprintf clwb clflushopt sfence DC CVAP CVAC DSB SY fsync ud2 memcpy memset std c99 target bin uint16_t
-    SAV RCL SYSTem ERRor
+    SAV RCL SYSTem ERRor IDN DMC EMC PCB
 """.split())
 # Files that belong to others, and what the build makes.
 ELSEWHERE = {"isa-l.h", "libpmemobj.h", "libpool_c.a"}
@@ -85,7 +85,7 @@ def files():
     promises = text(ROOT / "docs/PROMISES.md").split("| document 01 | definition | file |")[1]
     for cell in re.findall(r"\| ([^|]+) \|$", promises, re.M):
         for name in cell.split(", "):
-            if re.fullmatch(r"[A-Z]\w*", name) and not any((ROOT / f"crates/{crate}/specs/{name}.antt").exists() for crate in ("rules", "powercut", "setups")):
+            if re.fullmatch(r"[A-Z]\w*", name) and not any((ROOT / f"crates/{crate}/specs/{name}.antt").exists() for crate in ("rules", "powercut", "setups", "lines", "errors", "commands")):
                 yield f"docs/PROMISES.md: {name}.antt is in none of these specs/"
 
 

@@ -2,7 +2,7 @@
 use Prim.Native.Nat.{ℕ, zero, suc, _-_, _≤_, _<_}
 use mathlib.Core.Path.{_≡_, refl, sym, ap, _∙_, subst}
 use mathlib.Core.Logic.{_⊎_, inl, inr}
-use mathlib.Core.Bool.{Bool, true, false, cond, _&&_, _||_}
+use mathlib.Core.Bool.{Bool, true, false, cond, _&&_, _||_, and-false}
 use mathlib.Core.List.{List, [], _∷_, _++_, append-nil}
 use native.Mathlib.Nat.{min-le-left, sub-zero, suc-sub-suc, zero-sub}
 use native.Mathlib.Omega.{arith}
@@ -15,10 +15,6 @@ use Rattle.rules.proofs.Bool.{and-join, and-split, split}
 use Rattle.errors.specs.Errors.{Queue, QueueOrder, allErrors, asked, behindOldest, entered, enteredAll, fit, isError, judged, line, oldest, text}
 
 -- ---- one error
-
-and-false-r : (a : Bool) → (a && false) ≡ false
-and-false-r true = refl
-and-false-r false = refl
 
 or-elim : {A : Type 0} (a b : Bool) → (a ≡ true → A) → (b ≡ true → A) → (a || b) ≡ true → A
 or-elim true b f g h = f refl
@@ -79,7 +75,7 @@ unfolding allErrors
 all-bad zero l i h k b = absurd (omega arith)
 all-bad (suc n) [] i h k b = absurd (omega arith)
 all-bad (suc n) (e ∷ l) zero h k b = rw b
-all-bad (suc n) (e ∷ l) (suc i) h k b = rw (all-bad n l i (omega arith) (omega arith) b) (and-false-r (isError e))
+all-bad (suc n) (e ∷ l) (suc i) h k b = rw (all-bad n l i (omega arith) (omega arith) b) (and-false (isError e))
 
 take-most : (n : ℕ) (l : List ℕ) → length (take n l) ≤ n
 take-most n l = rw (length-take n l) (min-le-left n (length l))
@@ -107,7 +103,7 @@ many-judged n places h = rw (lt-leb n 10 h)
 
 pub bad-judged : (n : ℕ) (places : List ℕ) (i : ℕ) → i < n → i < length places → isError (getD places i 0) ≡ false → judged n places ≡ []
 unfolding judged
-bad-judged n places i h k b = rw (all-bad n places i h k b, and-false-r (leb n 10))
+bad-judged n places i h k b = rw (all-bad n places i h k b, and-false (leb n 10))
 
 pub fit-judged : (n : ℕ) (places : List ℕ) → n ≤ length places → fit (take n places) ≡ true → judged n places ≡ take n places
 unfolding judged

@@ -24,7 +24,7 @@ use Rattle.powercut.specs.Commit.{commitList, commitNext, commitOn, commitStep,
 use Rattle.powercut.specs.Advance.{commitBarrier, commitMade}
 use Rattle.powercut.specs.WholeRun.{Accepted}
 use Rattle.powercut.proofs.CommitOn.{commit-advances}
-use Rattle.powercut.proofs.PowerCut.{answer-not-refused}
+use Rattle.powercut.proofs.Answers.{answer-not-refused}
 use Rattle.answers.specs.declared.Answer.the-variants.{Done, Started}
 use Rattle.powercut.proofs.RunMatches.{list-length}
 use Rattle.layout.specs.declared.Shape.{Shape}

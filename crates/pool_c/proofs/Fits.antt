@@ -24,7 +24,7 @@ use Rattle.powercut.specs.Log.{countIn, valid}
 use Rattle.powercut.specs.Steps.{Remedy, clear, neither, nothing, remedy, replay}
 use Rattle.powercut.specs.Commit.{commitList, commitMore, commitOn, commitStart, commitStep, commitTests, isStored, nextPhase, placeIn, startPhase}
 use Rattle.powercut.specs.Recovery.{Recovery, RecoveryAfter, concludeRecovery, doneSteps, nextProgress, recoveryList, recoveryMore, recoveryOn, recoveryStart, recoveryStep, startRecovery}
-use Rattle.powercut.proofs.RunMatches.{again-inside}
+use Rattle.powercut.proofs.Answers.{again-inside}
 use Rattle.setups.specs.Setups.{concludeSave, saveCall, saveTests, saved, unsaved}
 use Rattle.pool_c.specs.Meaning.{Fits64, phaseOut, progressOut, workOut}
 

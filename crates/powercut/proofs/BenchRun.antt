@@ -35,25 +35,25 @@ use Rattle.powercut.specs.Claim.{End, EndsIn, Requirement3, oldOrNew}
 use Rattle.powercut.specs.Advance.{Moment, RunOn, acts, between, numberIn}
 
 -- Each definition that the run goes through, opened at once.
-opened : Unit {0}
+unfoldable pub opened : Unit {0}
 unfolding number digits field word put reduced low high check poolSize zoneCells zoneAt row first same within inRange headerFront headerBytes pageAt headerShape headerId headerOk validHeader shapeIn idIn differing openTests cellsFor freeOk objectOk allZero goodIn runOf readRun fits checkRun nextRun onward walk zoneWalk headBytes freeHead objectBytes book strike joined runAt zoneData walkIn bookFrom poolBook bookOf isObject isDamaged runThere objectTests unsealed readTests touch touchWords commitLength pastCommit isLive impossible conclude isRefused touchFree joinedAt touchJoined plan entriesIn concludeStart transactionStart recordTests liveTests callTests staged call calls begun onTaken newBook newBooks sealOf commitSteps redo act keep isSeal commitList commitNext commitStart commitStep commitTests isCommitting nextPhase placeIn startAnswer startPhase stepAnswer madeAnswer made entries isStored commitMore commitOn between numberIn acts
 opened = tt
 
-abbrev sh : Shape
+abbrev pub sh : Shape
 sh = record { page = 256; rows = 1; cols = 1; zones = 1 }
 
 abbrev row0 : List ℕ
 row0 = freeHead 3 ++ (replicate 176 0 ++ objectBytes 5 (ascii "a"))
 
 -- With one data row the parity row repeats it.
-abbrev pool : List ℕ
+abbrev pub pool : List ℕ
 pool = headerBytes sh 1 ++ (headerBytes sh 1 ++ (replicate 4096 0 ++ (row0 ++ row0)))
 
-abbrev staging : List ℕ
+abbrev pub staging : List ℕ
 staging = replicate 2032 0
 
 -- The object freed.
-abbrev ks : List Call
+abbrev pub ks : List Call
 ks = release 3 ∷ []
 
 -- Old lists the object, new does not.
@@ -64,7 +64,7 @@ books = (refl, refl)
 abbrev state : List Store → State
 state p = record { base = pool; pend = p; reached = false }
 
-abbrev txn : Phase → Transaction
+abbrev pub txn : Phase → Transaction
 txn ph = record { id = 1; count = 2; phase = ph }
 
 -- The run begins with no store pending and no seal; its start makes no store.

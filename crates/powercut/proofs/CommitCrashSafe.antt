@@ -29,7 +29,7 @@ module _ (sh : Shape) (es : List Store) where
   unfolding isSeal
   no-seal x a b = rw (ne-eqb (x .at) (logA sh) a, ne-eqb (x .at) (logB sh) b)
 
-  is-seal : (x : Store) → (x .at ≡ logA sh) ⊎ (x .at ≡ logB sh) → x .val ≡ sealOf es → isSeal sh es x ≡ true
+  pub is-seal : (x : Store) → (x .at ≡ logA sh) ⊎ (x .at ≡ logB sh) → x .val ≡ sealOf es → isSeal sh es x ≡ true
   unfolding isSeal
   is-seal x (inl a) e = rw (eq-eqb (x .at) (logA sh) a, eq-eqb (x .val) (sealOf es) e)
   is-seal x (inr b) e = rw (eq-eqb (x .at) (logB sh) b, eq-eqb (x .val) (sealOf es) e) (or-true (eqb (x .at) (logA sh))) where
@@ -37,10 +37,10 @@ module _ (sh : Shape) (es : List Store) where
     or-true true = refl
     or-true false = refl
 
-  abbrev Apart : Fact
+  abbrev pub Apart : Fact
   Apart a w = (a ≢ logA sh) × (a ≢ logB sh)
 
-  no-seals : (l : List Store) → All Apart l → anySeal sh es l ≡ false
+  pub no-seals : (l : List Store) → All Apart l → anySeal sh es l ≡ false
   no-seals [] h = refl
   no-seals (x ∷ l) h = ap₂ _||_ (no-seal x (h .0 .0) (h .0 .1)) (no-seals l (h .1))
 
@@ -56,7 +56,7 @@ module _ (sh : Shape) (es : List Store) (p₀ : List ℕ) (c : Setting sh es p�
   abbrev Q₁ : Fact
   Q₁ = Facts sh (Is 0) (Is 0) (λ a w. Unit {0}) (λ a w. w ≡ word p₀ a)
 
-  abbrev R₁ : Fact
+  abbrev pub R₁ : Fact
   R₁ a w = With sh Q₁ a w × ((a ≢ logA sh) × (a ≢ logB sh))
 
   old-pool : Every (poolSize sh) Q₁ p₀
@@ -81,12 +81,12 @@ module _ (sh : Shape) (es : List Store) (p₀ : List ℕ) (c : Setting sh es p�
     nO (inr x) (inl o) = omega (arith, m)
     nO (inr x) (inr o) = omega arith
 
-  logs-R₁ : All R₁ (logs sh es p₀)
+  pub logs-R₁ : All R₁ (logs sh es p₀)
   logs-R₁ =
       all-map {Q = λ a w. Fit (poolSize sh) a w × Inner sh 0 a} {Q′ = R₁} (λ a w x. let y = inner-apart a w (x .1) in ((x .0, y .0), y .1)) (logs sh es p₀)
       (all-both (Fit (poolSize sh)) (λ a w. Inner sh 0 a) (logs sh es p₀) (logs-fit sh es p₀ c) (logs-inner sh es p₀ c))
 
-  clean-old : (kept : List Store) → All R₁ kept → CleanAt sh es p₀ (lay p₀ kept) false
+  pub clean-old : (kept : List Store) → All R₁ kept → CleanAt sh es p₀ (lay p₀ kept) false
   clean-old kept w = record {
     length-is = length-lay p₀ kept ∙ c .length-is;
     bytes = bytes-lay p₀ kept (c .bytes);
@@ -100,13 +100,13 @@ module _ (sh : Shape) (es : List Store) (p₀ : List ℕ) (c : Setting sh es p�
       (inl (clean-old kept k))
 
   -- ---- part 2: the logs hold the entries; a seal is zero or the commit's
-  p₁ : List ℕ
+  unfoldable pub p₁ : List ℕ
   p₁ = lay p₀ (logs sh es p₀)
 
   abbrev Q₂ : Fact
   Q₂ = Facts sh (λ w. (w ≡ 0) ⊎ (w ≡ sealOf es)) (λ w. (w ≡ 0) ⊎ (w ≡ sealOf es)) (Right (logs sh es p₀)) (Redo sh es p₀)
 
-  abbrev SealStore : Fact
+  abbrev pub SealStore : Fact
   SealStore a w = Fit (poolSize sh) a w × ((a ≡ logA sh) ⊎ (a ≡ logB sh)) × (w ≡ sealOf es)
 
   logged : Every (poolSize sh) Q₂ p₁
@@ -120,16 +120,16 @@ module _ (sh : Shape) (es : List Store) (p₀ : List ℕ) (c : Setting sh es p�
         out = λ o. old-redo a (word p₁ a) ha hn (f .out o);
       }
 
-  l₁ : length p₁ ≡ poolSize sh
+  pub l₁ : length p₁ ≡ poolSize sh
   unfolding p₁
   l₁ = length-lay p₀ (logs sh es p₀) ∙ c .length-is
 
-  b₁ : Bytes p₁
+  pub b₁ : Bytes p₁
   unfolding p₁
   b₁ = bytes-lay p₀ (logs sh es p₀) (c .bytes)
 
   -- once a seal is kept, there is a log to replay
-  sealed : (x : Store) (kept : List Store) → All SealStore (x ∷ kept) → ReplayAt sh es p₀ (lay p₁ (x ∷ kept))
+  pub sealed : (x : Store) (kept : List Store) → All SealStore (x ∷ kept) → ReplayAt sh es p₀ (lay p₁ (x ∷ kept))
   sealed x kept w = record {
     length-is = length-lay p₁ (x ∷ kept) ∙ l₁;
     bytes = bytes-lay p₁ (x ∷ kept) b₁;
@@ -174,7 +174,7 @@ module _ (sh : Shape) (es : List Store) (p₀ : List ℕ) (c : Setting sh es p�
     go (x ∷ k) w =
         subst (λ (r : Bool). AfterCut sh es p₀ (lay p₁ (x ∷ k)) (r || anySeal sh es k)) (sym (is-seal sh es x (w .0 .1) (w .0 .2))) (inr (refl, sealed x k w))
 
-  seals-all : All SealStore (seals sh (sealOf es))
+  pub seals-all : All SealStore (seals sh (sealOf es))
   seals-all = (
     (record { even = even-A sh es p₀ c; inside = in-A sh es p₀ c; small = seal-lt es (c .few) }, inl refl, refl),
     ((record { even = even-B sh es p₀ c; inside = in-B sh es p₀ c; small = seal-lt es (c .few) }, inr refl, refl), tt),

@@ -28,8 +28,8 @@ use Rattle.powercut.specs.Requirements.{KeepsGiven}
 use Rattle.powercut.specs.Advance.{CommitAdvances, between, commitBarrier, commitMade}
 use Rattle.powercut.proofs.Between.{made-here, made-next}
 use Rattle.powercut.proofs.Parts.{answer-barrier, answer-stored, commit-ends, commit-high, commit-low, commit-stays, commit-store}
-use Rattle.powercut.proofs.RunMatches.{commit-some, list-length, place-is, step-none}
-use Rattle.powercut.proofs.PowerCut.{answer-not-refused, not-impossible, phase-on}
+use Rattle.powercut.proofs.Answers.{answer-not-refused, not-impossible, phase-on, place-is, step-none}
+use Rattle.powercut.proofs.RunMatches.{commit-some, list-length}
 use Rattle.powercut.proofs.Untouched.{commit-from, headers-untouched, step-untouched}
 use Rattle.powercut.proofs.Refusals.{refused-is, step-refused}
 

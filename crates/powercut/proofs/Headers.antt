@@ -1,6 +1,6 @@
 -- No step stores into the headers: at every moment of a run they are as at the start (`step-run-headers`). Of a clean pool and good
 -- entries. Assumes nothing else.
-use mathlib.Core.Path.{_≡_, sym, ap, _∙_}
+use mathlib.Core.Path.{_≡_, refl, sym, ap, _∙_}
 use mathlib.Core.Logic.{_⊎_, inl, inr}
 use mathlib.Core.Bool.{Bool, true, false}
 use mathlib.Core.List.{List, [], _∷_}
@@ -12,10 +12,12 @@ use Rattle.rules.specs.Shape.{Shape, logA, poolSize, zonesAt}
 use Rattle.rules.specs.Staging.{Store, lay}
 use Rattle.rules.proofs.Shape.{Good}
 use Rattle.rules.proofs.Stores.{Covered, all-map, covered-fact}
+use Rattle.powercut.specs.Log.{fromA}
 use Rattle.powercut.specs.Power.{State, view}
 use Rattle.powercut.proofs.StepRun.{Clean, Entries, Position, StepRun, atCommit, atCut, atRecovery}
 use Rattle.powercut.proofs.FinalPool.{Entry, Setting, final-else, finalPool, pars-low}
-use Rattle.powercut.proofs.Redo.{AfterCut, Redo, in-A, pars}
+use Rattle.powercut.proofs.Redo.{AfterCut, Redo, pars}
+use Rattle.powercut.proofs.Logs.{in-log}
 use Rattle.powercut.proofs.StepRunInvariant.{after-view, run-inv}
 use Rattle.powercut.proofs.ByteParity.{byte-at}
 use Rattle.powercut.proofs.StepRunClaim.{InvEmpty, Unchanged, run-unchanged, setting, unchanged-view}
@@ -32,7 +34,7 @@ module _ (sh : Shape) (es : List Store) (p₀ : List ℕ) (c : Setting sh es p�
       let h = covered-fact (λ b. zonesAt sh ≤ b) a (pars sh es p₀) k (pars-low sh (c .good) (lay p₀ es) es (c .entries)) in
       omega arith
 
-  -- so their words stay in the final pool, and in every pool that a cut may leave
+  -- so their words stay in the final pool
   final-header : (a : ℕ) → a % 8 ≡ 0 → a + 8 ≤ poolSize sh → a < logA sh → word (finalPool sh p₀ es) a ≡ word p₀ a
   final-header a ha hn l = go (final-else sh es p₀ c a ha hn) where
     go : Covered a es ⊎ (Covered a (pars sh es p₀) ⊎ (word (finalPool sh p₀ es) a ≡ word p₀ a)) → word (finalPool sh p₀ es) a ≡ word p₀ a
@@ -40,21 +42,24 @@ module _ (sh : Shape) (es : List Store) (p₀ : List ℕ) (c : Setting sh es p�
     go (inr (inl k)) = absurd (pars-past a l k)
     go (inr (inr e)) = e
 
-  cut-header : (p : List ℕ) (b : Bool) → AfterCut sh es p₀ p b
+-- and in every pool that a cut may leave: from a clean pool; where all is to be new, of one entry or more
+module _ (sh : Shape) (g : Good sh) (es : List Store) (p₀ : List ℕ) (o : Clean sh p₀) where
+  cut-header : (p : List ℕ) (b : Bool) → (b ≡ true → Setting sh es p₀) → AfterCut sh es p₀ p b
       → (length p ≡ poolSize sh) × Bytes p × ((a : ℕ) → a % 8 ≡ 0 → a + 8 ≤ poolSize sh → a < logA sh → word p a ≡ word p₀ a)
-  cut-header p true (inl q) = (q .length-is, q .bytes, λ a ha hn l. q .every a ha hn .out (inl l) ∙ final-header a ha hn l)
-  cut-header p false (inl q) = (q .length-is, q .bytes, λ a ha hn l. q .every a ha hn .out (inl l))
-  cut-header p b (inr (r, q)) = (q .length-is, q .bytes, λ a ha hn l. go a ha hn l (q .every a ha hn .out (inl l))) where
+  cut-header p true c (inl q) = (q .length-is, q .bytes, λ a ha hn l. q .every a ha hn .out (inl l) ∙ final-header sh es p₀ (c refl) a ha hn l)
+  cut-header p false c (inl q) = (q .length-is, q .bytes, λ a ha hn l. q .every a ha hn .out (inl l))
+  cut-header p b c (inr (r, q)) = (q .length-is, q .bytes, λ a ha hn l. go a ha hn l (q .every a ha hn .out (inl l))) where
     go : (a : ℕ) → a % 8 ≡ 0 → a + 8 ≤ poolSize sh → a < logA sh → Redo sh es p₀ a (word p a) → word p a ≡ word p₀ a
-    go a ha hn l (inl k) = absurd (entries-past a l k)
-    go a ha hn l (inr (inl k)) = absurd (pars-past a l k)
-    go a ha hn l (inr (inr e)) = e ∙ final-header a ha hn l
+    go a ha hn l (inl k) = absurd (entries-past sh es p₀ (c r) a l k)
+    go a ha hn l (inr (inl k)) = absurd (pars-past sh es p₀ (c r) a l k)
+    go a ha hn l (inr (inr e)) = e ∙ final-header sh es p₀ (c r) a ha hn l
 
-  header-bytes : (p : List ℕ) (b : Bool) → AfterCut sh es p₀ p b → (length p ≡ length p₀) × ((i : ℕ) → i < logA sh → getD p i 0 ≡ getD p₀ i 0)
-  header-bytes p b h =
-      let k = cut-header p b h in (
-        k .0 ∙ sym (c .length-is),
-        λ i l. byte-at p p₀ i (k .1) (c .bytes) (k .2 (i / 8 * 8) (omega arith) (let m = in-A sh es p₀ c in omega arith) (omega arith)),
+  pub header-bytes : (p : List ℕ) (b : Bool) → (b ≡ true → Setting sh es p₀) → AfterCut sh es p₀ p b
+      → (length p ≡ length p₀) × ((i : ℕ) → i < logA sh → getD p i 0 ≡ getD p₀ i 0)
+  header-bytes p b c h =
+      let k = cut-header p b c h in (
+        k .0 ∙ sym (o .length-is),
+        λ i l. byte-at p p₀ i (k .1) (o .bytes) (k .2 (i / 8 * 8) (omega arith) (let m = in-log sh fromA g in omega arith) (omega arith)),
       )
 
 -- THE HEADERS STAY
@@ -71,4 +76,4 @@ step-run-headers sh g [] p₀ q h {f} {s} r =
 step-run-headers sh g (e ∷ es) p₀ q h {f} {s} r =
     let c = setting sh g e es p₀ q h in
     let v = after-view sh (e ∷ es) p₀ c f s (run-inv sh (e ∷ es) p₀ c r) in
-    header-bytes sh (e ∷ es) p₀ c (view s) (v .0) (v .1)
+    header-bytes sh g (e ∷ es) p₀ q (view s) (v .0) (λ b. c) (v .1)

@@ -140,6 +140,25 @@ module _ (sh : Shape) (g : Good sh) where
       at-log fromA = (h .0, h .1 .0)
       at-log fromB = (h .1 .1 .0, h .1 .1 .1 .0)
 
+module _ (sh : Shape) (l : Log) (g : Good sh) where
+  -- where a log lies: at a word, between the headers and the zones
+  pub record Place (b : ℕ) : Type 0 where
+    pub whole : b % 8 ≡ 0
+    pub from : logA sh ≤ b
+    pub to : b + 8 * sh .page ≤ zonesAt sh
+
+  pub place : Place (logAt sh l)
+  place = go l where
+    go : (k : Log) → Place (logAt sh k)
+    go fromA = record { whole = even-at sh g 2 0 (logA sh) (omega arith); from = omega arith; to = omega arith }
+    go fromB = record { whole = even-at sh g 10 0 (logB sh) (omega arith); from = omega arith; to = omega arith }
+
+  pub even-log : logAt sh l % 8 ≡ 0
+  even-log = place .whole
+
+  pub in-log : logAt sh l + 8 ≤ poolSize sh
+  in-log = let k = place .to in let m = g .page-min in let e = size-eq sh g in omega arith
+
 -- ---- the seal
 
 entries-check : (es : List Store) → check (entryBytes es) < 2 ^ 32

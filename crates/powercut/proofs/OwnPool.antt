@@ -20,7 +20,7 @@ use Rattle.powercut.specs.Commit.{commitOn, commitStart, commitStep, com
 use Rattle.powercut.specs.Recovery.{Recovery, RecoveryAfter, concludeRecovery, recoveryOn, recoveryStep, recoveryTests}
 use Rattle.powercut.specs.Advance.{commitMade, recoveryMade}
 use Rattle.powercut.specs.OwnPool.{OtherPool, OtherRecovery, OwnPool}
-use Rattle.powercut.proofs.RunMatches.{again-possible}
+use Rattle.powercut.proofs.Answers.{again-possible}
 use Rattle.powercut.proofs.Refusals.{refused-is}
 use Rattle.powercut.proofs.CommitOn.{accepted-place, commit-advances}
 use Rattle.powercut.proofs.RecoveryOn.{recovery-advances, recovery-on}

@@ -31,8 +31,7 @@ use Rattle.powercut.specs.Requirements.{KeepsRecovery}
 use Rattle.powercut.specs.Advance.{RecoveryAdvances, between, recoveryBarrier, recoveryMade, redoBarrier}
 use Rattle.powercut.proofs.StepCount.{redo-tail, replay-count}
 use Rattle.powercut.proofs.Logs.{judged-kept, log-targets}
-use Rattle.powercut.proofs.RunMatches.{Possible, again-none, again-possible, done-is}
-use Rattle.powercut.proofs.PowerCut.{accepted-again, again-passed, answer-not-refused, log-past, log-there, progress-on}
+use Rattle.powercut.proofs.Answers.{Possible, accepted-again, again-none, again-passed, again-possible, answer-not-refused, done-is, log-past, log-there, progress-on}
 use Rattle.powercut.proofs.Refusals.{recovery-step-refused, refused-is}
 use Rattle.powercut.proofs.Between.{made-here, made-next}
 use Rattle.powercut.proofs.Parts.{RedoPart, clears, data-words, answer-barrier, answer-stored, isStore, parity-words, redo-ends, redo-high, redo-low, redo-part, redo-stays, redo-store}

@@ -15,11 +15,11 @@ use Rattle.rules.specs.Staging.{Store, lay}
 use Rattle.rules.specs.Parity.{parityWord}
 use Rattle.rules.proofs.Shape.{InData, fits, row-in, size-eq}
 use Rattle.rules.proofs.Stores.{All, Covered, Every, Fact, Fit, Right, all-covered, all-map, all-sub, bytes-lay, covered-fact, covered?, lay-every, lay-fact, length-lay, right-all, uncovered-right}
-use Rattle.powercut.specs.Log.{sealOf}
+use Rattle.powercut.specs.Log.{fromA, fromB, sealOf}
 use Rattle.powercut.specs.Steps.{Step, barrier, logStores, parity, redo, seals, store}
 use Rattle.powercut.specs.Power.{State, anySeal, view}
 use Rattle.powercut.proofs.FinalPool.{Entry, ParityW, Setting, entries-fit, final-bytes, final-parity, final-target, finalPool, par-cong, par-small, parStores, pars-cover, pars-row, zones-fit}
-use Rattle.powercut.proofs.Logs.{Inner, even-at, log-fit, log-inner}
+use Rattle.powercut.proofs.Logs.{Inner, even-log, in-log, log-fit, log-inner}
 use Rattle.powercut.proofs.CrashSafe.{Makes, CrashSafe, makes-stores, parity-acts, phase, st}
 
 abbrev pub Outside : Shape → ℕ → Type 0
@@ -113,16 +113,16 @@ module _ (sh : Shape) (es : List Store) (p₀ : List ℕ) (c : Setting sh es p�
   below = let k = c .good .page-min in let e = size-eq sh (c .good) in omega arith
 
   pub even-A : logA sh % 8 ≡ 0
-  even-A = even-at sh (c .good) 2 0 (logA sh) (omega arith)
+  even-A = even-log sh fromA (c .good)
 
   pub even-B : logB sh % 8 ≡ 0
-  even-B = even-at sh (c .good) 10 0 (logB sh) (omega arith)
+  even-B = even-log sh fromB (c .good)
 
   pub in-A : logA sh + 8 ≤ poolSize sh
-  in-A = let k = below in let m = c .good .page-min in omega arith
+  in-A = in-log sh fromA (c .good)
 
   pub in-B : logB sh + 8 ≤ poolSize sh
-  in-B = let k = below in let m = c .good .page-min in omega arith
+  in-B = in-log sh fromB (c .good)
 
   pub logs-fit : All (Fit (poolSize sh)) (logs sh es p₀)
   logs-fit = log-fit sh (c .good) 0 es (let k = c .few in omega arith) (c .entries)

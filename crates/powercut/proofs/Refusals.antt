@@ -12,7 +12,7 @@ use Rattle.rules.proofs.Transaction.{conclude-refused}
 use Rattle.powercut.specs.Steps.{Remedy, clear, neither, nothing, remedy, replay}
 use Rattle.powercut.specs.Commit.{commitStart, commitStep}
 use Rattle.powercut.specs.Recovery.{Recovery, RecoveryAfter, concludeRecovery, idle, recoveryStart, recoveryStep, startRecovery}
-use Rattle.powercut.proofs.PowerCut.{answer-not-refused, start-not-refused}
+use Rattle.powercut.proofs.Answers.{answer-not-refused, start-not-refused}
 
 pub refused-is : (a : Answer) → isRefused a ≡ true → (n : ℕ) × (a ≡ refused n)
 unfolding isRefused

@@ -31,7 +31,7 @@ use Rattle.powercut.specs.Requirements.{KeepsPool, Mended, Requirement1,
 use Rattle.powercut.proofs.Refusals.{recovery-start-pool, recovery-step-refused, start-refused, step-refused}
 use Rattle.powercut.proofs.CommitOn.{commit-on-refused}
 use Rattle.powercut.proofs.RecoveryOn.{recovery-on-refused}
-use Rattle.powercut.proofs.RunMatches.{held}
+use Rattle.powercut.proofs.RunInput.{held}
 use Rattle.powercut.proofs.Committed.{commits-exactly}
 
 format-kept : (p : List ℕ) (R C Z id : ℕ) → KeepsPool p (formatted p R C Z id)

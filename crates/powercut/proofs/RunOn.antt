@@ -23,8 +23,10 @@ use Rattle.powercut.proofs.Between.{between-next, between-past}
 use Rattle.powercut.proofs.Parts.{commit-high, commit-low}
 use Rattle.powercut.proofs.StepRun.{StepRun, atRecovery}
 use Rattle.powercut.proofs.StepPool.{view-act}
-use Rattle.powercut.proofs.RunMatches.{CommitMatches, Input, RecoveryMatches, again-left, again-next, claim, done-is, list-is, list-met, next-is, place-is, run-matches, shape-is, step-left}
-use Rattle.powercut.proofs.PowerCut.{answer-not-refused, power-cut, running-replay}
+use Rattle.powercut.proofs.Answers.{again-left, again-next, answer-not-refused, done-is, list-is, next-is, place-is, step-left}
+use Rattle.powercut.proofs.RunInput.{Input, shape-is}
+use Rattle.powercut.proofs.RunMatches.{CommitMatches, RecoveryMatches, claim, front-kept, list-met, run-matches}
+use Rattle.powercut.proofs.PowerCut.{power-cut, running-replay}
 use Rattle.powercut.proofs.RecoveryOn.{part-of, recovery-advances, recovery-on-accepted, recovery-place}
 use Rattle.powercut.proofs.CommitOn.{accepted-place, commit-advances, commit-on-accepted}
 
@@ -124,7 +126,7 @@ module _ (inp : Input) where
       let i = power-cut pool staging ks (inp .sound) (inp .typed) .steps t s k r e in
       let n : size ≡ 6 * t .count + 9 = (let a = i .count in let b = ap length l in let d = h .0 in omega arith) in
       record {
-        shape = shape-is inp (c .2);
+        shape = shape-is inp (view s) (front-kept inp (c .2));
         list = l;
         low = commit-low (t .count) k (let a = c .0 in omega arith);
         high = let a = commit-high (t .count) k in omega arith;
@@ -222,8 +224,8 @@ module _ (inp : Input) where
       ∙ claim inp .replays s (w .0) (length es) k (subst (λ (y : Remedy). StepRun sh es pool (atRecovery y k) s) (w .1) (c .1)) in
       let a = part-of sh (view s) (r .work) k (c .0) in
       record {
-        shape = shape-is inp (c .1);
-        list = list-is (view s) r sh (shape-is inp (c .1)) ∙ q;
+        shape = shape-is inp (view s) (front-kept inp (c .1));
+        list = list-is (view s) r sh (shape-is inp (view s) (front-kept inp (c .1))) ∙ q;
         low = a .low;
         high = let b = a .high in let d = ap length q in omega arith;
         accepted = power-cut pool staging ks (inp .sound) (inp .typed) .resumes r s k u e .accepted;

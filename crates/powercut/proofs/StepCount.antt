@@ -119,6 +119,18 @@ module _ (sh : Shape) where
   unfolding recoverySteps
   clear-count p = refl
 
+  pub nothing-count : (p : List ℕ) → length (recoverySteps sh p nothing) ≡ 0
+  unfolding recoverySteps
+  nothing-count p = refl
+
+  -- whatever the pool
+  pub recovery-length : (p q : List ℕ) (r : Remedy) → length (recoverySteps sh p r) ≡ length (recoverySteps sh q r)
+  unfolding recoverySteps
+  recovery-length p q (replay l n) = replay-count p l n ∙ sym (replay-count q l n)
+  recovery-length p q clear = refl
+  recovery-length p q nothing = refl
+  recovery-length p q neither = refl
+
   -- at most 2 × 127 + 5
   pub recovery-few : (p : List ℕ) (w : Remedy) → countAbove w ≡ false → length (recoverySteps sh p w) ≤ 259
   unfolding countAbove

@@ -13,79 +13,82 @@ use Rattle.rules.specs.Shape.{Shape, logA, logB, parityAt, poolSize, zonesAt}
 use Rattle.rules.specs.Staging.{Store, lay}
 use Rattle.rules.proofs.Shape.{Good, InData, fits, row-in}
 use Rattle.rules.proofs.Stores.{Covered, bytes-lay}
-use Rattle.powercut.specs.Log.{Log}
+use Rattle.powercut.specs.Log.{Log, fromA, fromB}
 use Rattle.powercut.specs.Steps.{Remedy, clear, commitSteps, neither, nothing, recoverySteps, remedy, replay}
 use Rattle.powercut.specs.Power.{State, keep, view}
 use Rattle.powercut.specs.Claim.{SameData, stagedOrOld}
 use Rattle.powercut.proofs.StepRun.{Claim, StepRun, Ended, Entries, Clean, Position, again, atCommit, atCut, atRecovery, begin, cut, cut-again, recover, step}
 use Rattle.powercut.proofs.FinalPool.{ParityW, Setting, final-first, final-parity, finalPool, par-cong, pars-row, targets-all, targets-distinct}
-use Rattle.powercut.proofs.Logs.{even-at, remedy-nothing}
-use Rattle.powercut.proofs.Redo.{Outside, CleanAt, even-A, even-B, in-A, in-B, new, pars}
+use Rattle.powercut.proofs.Logs.{even-at, even-log, in-log, remedy-nothing}
+use Rattle.powercut.proofs.Redo.{Outside, CleanAt, new, pars}
 use Rattle.powercut.proofs.StepRunInvariant.{Inv, commit-done, cut-sealed, log-kept, not-refused, recovery-done, run-inv, steps-redo}
 use Rattle.powercut.proofs.ByteParity.{byte-at, parity-bytes, parity-words, row-byte}
 
 floor8 : (s i : ℕ) → s % 8 ≡ 0 → s ≤ i → s ≤ i / 8 * 8
 floor8 s i e h = omega arith
 
-module _ (sh : Shape) (es : List Store) (p₀ : List ℕ) (c : Setting sh es p₀) where
-  new-right : (r : Bool) → ParityW sh (new sh es p₀ r)
-  new-right true = final-parity sh es p₀ c
-  new-right false = c .right
+-- ---- an end, from a clean pool; where all is new, of one entry or more
+
+module _ (sh : Shape) (g : Good sh) (es : List Store) (p₀ : List ℕ) (o : Clean sh p₀) where
+  new-right : (r : Bool) → (r ≡ true → Setting sh es p₀) → ParityW sh (new sh es p₀ r)
+  new-right true c = final-parity sh es p₀ (c refl)
+  new-right false c = parity-words sh g p₀ (o .bytes) (o .right)
 
   laid-bytes : (r : Bool) → Bytes (stagedOrOld r p₀ es)
-  laid-bytes true = bytes-lay p₀ es (c .bytes)
-  laid-bytes false = c .bytes
+  laid-bytes true = bytes-lay p₀ es (o .bytes)
+  laid-bytes false = o .bytes
 
   -- but for parity places, the new pool is the old one with the entries laid in
-  laid : (r : Bool) (a : ℕ) → a % 8 ≡ 0 → a + 8 ≤ poolSize sh → (Covered a (pars sh es p₀) → ⊥) → word (new sh es p₀ r) a ≡ word (stagedOrOld r p₀ es) a
-  laid true a ha hn h = pick (final-first sh es p₀ c a ha hn) where
+  laid : (r : Bool) → (r ≡ true → Setting sh es p₀) → (a : ℕ) → a % 8 ≡ 0 → a + 8 ≤ poolSize sh → (Covered a (pars sh es p₀) → ⊥)
+      → word (new sh es p₀ r) a ≡ word (stagedOrOld r p₀ es) a
+  laid true c a ha hn h = pick (final-first sh es p₀ (c refl) a ha hn) where
     pick : Covered a (pars sh es p₀) ⊎ (word (finalPool sh p₀ es) a ≡ word (lay p₀ es) a) → word (finalPool sh p₀ es) a ≡ word (lay p₀ es) a
     pick (inl k) = absurd (h k)
     pick (inr e) = e
-  laid false a ha hn h = refl
+  laid false c a ha hn h = refl
 
-  module _ (p : List ℕ) (r : Bool) (q : CleanAt sh es p₀ p r) where
+  module _ (p : List ℕ) (r : Bool) (c : r ≡ true → Setting sh es p₀) (q : CleanAt sh es p₀ p r) where
     clean-right : ParityW sh p
     clean-right t i =
         let a = parityAt sh t in
-        let j = row-in sh (c .good) t (sh .rows) i (le-refl (sh .rows)) in
-        q .every a (j .even) (fits sh (c .good) a (j .even) (j .high)) .out (inr (j .low))
-        ∙ new-right r t i
-        ∙ par-cong sh (c .good) (new sh es p₀ r) p t i
-        (λ b d. sym (q .every b (d .inside .even) (fits sh (c .good) b (d .inside .even) (d .inside .high)) .out (inr (d .inside .low))))
+        let j = row-in sh g t (sh .rows) i (le-refl (sh .rows)) in
+        q .every a (j .even) (fits sh g a (j .even) (j .high)) .out (inr (j .low))
+        ∙ new-right r c t i
+        ∙ par-cong sh g (new sh es p₀ r) p t i
+        (λ b d. sym (q .every b (d .inside .even) (fits sh g b (d .inside .even) (d .inside .high)) .out (inr (d .inside .low))))
 
     clean-of : Clean sh p
     clean-of = record {
       length-is = q .length-is;
       bytes = q .bytes;
-      sealA = q .every (logA sh) (even-A sh es p₀ c) (in-A sh es p₀ c) .sa refl;
-      sealB = q .every (logB sh) (even-B sh es p₀ c) (in-B sh es p₀ c) .sb refl;
-      right = parity-bytes sh (c .good) p (q .bytes) clean-right;
+      sealA = q .every (logA sh) (even-log sh fromA g) (in-log sh fromA g) .sa refl;
+      sealB = q .every (logB sh) (even-log sh fromB g) (in-log sh fromB g) .sb refl;
+      right = parity-bytes sh g p (q .bytes) clean-right;
     }
 
     -- a byte whose word is outside the logs and no parity place
     byte-same : (i : ℕ) → i / 8 * 8 + 8 ≤ poolSize sh → Outside sh (i / 8 * 8) → (Covered (i / 8 * 8) (pars sh es p₀) → ⊥)
         → getD p i 0 ≡ getD (stagedOrOld r p₀ es) i 0
-    byte-same i hn o h =
+    byte-same i hn l h =
         let a = i / 8 * 8 in
         let e : a % 8 ≡ 0 = omega arith in
-        byte-at p (stagedOrOld r p₀ es) i (q .bytes) (laid-bytes r) (q .every a e hn .out o ∙ laid r a e hn h)
+        byte-at p (stagedOrOld r p₀ es) i (q .bytes) (laid-bytes r) (q .every a e hn .out l ∙ laid r c a e hn h)
 
     same-of : SameData sh p (stagedOrOld r p₀ es)
     same-of i l h k =
-        byte-same i (fits sh (c .good) (i / 8 * 8) (d .inside .even) (d .inside .high)) (inr (d .inside .low)) (λ x. pars-row sh (c .good) (i / 8 * 8) (lay p₀ es) es x d)
+        byte-same i (fits sh g (i / 8 * 8) (d .inside .even) (d .inside .high)) (inr (d .inside .low)) (λ x. pars-row sh g (i / 8 * 8) (lay p₀ es) es x d)
       where
         d : InData sh (i / 8 * 8)
         d = record {
-          inside = record { low = floor8 (zonesAt sh) i (even-at sh (c .good) 18 0 (zonesAt sh) (omega arith)) l; high = omega arith; even = omega arith };
-          data-row = subst (λ (y : ℕ). y < sh .rows) (sym (row-byte sh (c .good) i)) k;
+          inside = record { low = floor8 (zonesAt sh) i (even-at sh g 18 0 (zonesAt sh) (omega arith)) l; high = omega arith; even = omega arith };
+          data-row = subst (λ (y : ℕ). y < sh .rows) (sym (row-byte sh g i)) k;
         }
 
-  ended : (s : State) (r : Bool) → s .pend ≡ [] → CleanAt sh es p₀ (s .base) r → Ended sh p₀ es s r
-  ended s r e q = record {
+  pub ended : (s : State) (r : Bool) → (r ≡ true → Setting sh es p₀) → s .pend ≡ [] → CleanAt sh es p₀ (s .base) r → Ended sh p₀ es s r
+  ended s r c e q = record {
     behind = e;
-    clean = subst (Clean sh) (sym (ap (lay (s .base)) e)) (clean-of (s .base) r q);
-    same = subst (λ (p : List ℕ). SameData sh p (stagedOrOld r p₀ es)) (sym (ap (lay (s .base)) e)) (same-of (s .base) r q);
+    clean = subst (Clean sh) (sym (ap (lay (s .base)) e)) (clean-of (s .base) r c q);
+    same = subst (λ (p : List ℕ). SameData sh p (stagedOrOld r p₀ es)) (sym (ap (lay (s .base)) e)) (same-of (s .base) r c q);
   }
 
 -- ---- no entries: no step changes anything
@@ -169,8 +172,8 @@ step-run-claim sh g p₀ [] q h = record {
 step-run-claim sh g p₀ (e ∷ es) q h =
     let c = setting sh g e es p₀ q h in
     record {
-      uncut = λ s r. let d = commit-done sh (e ∷ es) p₀ c s r in ended sh (e ∷ es) p₀ c s true (d .0) (subst (CleanAt sh (e ∷ es) p₀ (s .base)) (d .2) (d .1));
-      recovered = λ s x k r i. let d = recovery-done sh (e ∷ es) p₀ c s x k r i in ended sh (e ∷ es) p₀ c s (s .reached) (d .0) (d .1);
+      uncut = λ s r. let d = commit-done sh (e ∷ es) p₀ c s r in ended sh g (e ∷ es) p₀ q s true (λ b. c) (d .0) (subst (CleanAt sh (e ∷ es) p₀ (s .base)) (d .2) (d .1));
+      recovered = λ s x k r i. let d = recovery-done sh (e ∷ es) p₀ c s x k r i in ended sh g (e ∷ es) p₀ q s (s .reached) (λ b. c) (d .0) (d .1);
       never-refused = not-refused sh (e ∷ es) p₀ c;
       remedies = λ s x k r. remedy-of sh (e ∷ es) p₀ s x k (run-inv sh (e ∷ es) p₀ c r);
       sealed = cut-sealed sh (e ∷ es) p₀ c;

@@ -25,7 +25,7 @@ use Rattle.powercut.specs.Advance.{recoveryBarrier, recoveryMade}
 use Rattle.powercut.proofs.StepCount.{clear-count, recovery-few, replay-count}
 use Rattle.powercut.proofs.Logs.{judged-kept}
 use Rattle.powercut.proofs.RecoveryOn.{recovery-advances, recovery-on}
-use Rattle.powercut.proofs.RunMatches.{Possible, recovery-possible}
+use Rattle.powercut.proofs.Answers.{Possible, recovery-possible}
 use Rattle.words.specs.Loaded.{Loaded}
 use Rattle.layout.specs.declared.Shape.{Shape}
 use Rattle.layout.specs.declared.Opened.the-variants as Opening

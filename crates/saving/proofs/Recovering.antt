@@ -23,8 +23,8 @@ use Rattle.powercut.specs.Advance.{acts, inRecovery, numberIn, recoveryBarrier,
 use Rattle.powercut.specs.WholeRun.{Accepted, Makes, Run, cutOff, entries, resuming}
 use Rattle.powercut.specs.Claim.{End}
 use Rattle.powercut.proofs.StepPool.{reached-act}
-use Rattle.powercut.proofs.RunMatches.{again-inside, again-none, done-is, recover-none}
-use Rattle.powercut.proofs.PowerCut.{power-cut, progress-end, progress-on, restarted}
+use Rattle.powercut.proofs.Answers.{again-inside, again-none, done-is, progress-end, progress-on, recover-none}
+use Rattle.powercut.proofs.PowerCut.{power-cut, restarted}
 use Rattle.powercut.proofs.Refusals.{recovery-start-pool}
 use Rattle.powercut.proofs.RecoveryOn.{recovery-advances, recovery-on-accepted}
 use Rattle.powercut.proofs.RunOn.{advance-runs, recovery-runs}

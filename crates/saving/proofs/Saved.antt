@@ -24,7 +24,7 @@ use Rattle.transaction.specs.Meaning.{afterOf, givenOf, startOf}
 use Rattle.saving.specs.Meaning.{outcomeOf}
 use Rattle.saving.specs.Saving.{Outcome, Saves, Told, committed, isDone, saveOn, saved, savedAs}
 use Rattle.saving.proofs.Uncut.{Ended, commit-ends}
-use Rattle.powercut.proofs.RunMatches.{accepted-none, call-answer}
+use Rattle.powercut.proofs.Answers.{accepted-none, call-answer}
 use Rattle.powercut.proofs.PowerCut.{power-cut}
 use Rattle.powercut.proofs.Refusals.{refused-is}
 

@@ -16,7 +16,8 @@ use Rattle.rules.proofs.Sound.{sound-fits}
 use Rattle.rules.proofs.Ascending.{Ascends, held-ascends, strike-entered}
 use Rattle.powercut.specs.WholeRun.{entries, made}
 use Rattle.powercut.specs.Claim.{new}
-use Rattle.powercut.proofs.RunMatches.{call-answer, held}
+use Rattle.powercut.proofs.Answers.{call-answer}
+use Rattle.powercut.proofs.RunInput.{held}
 use Rattle.answers.specs.Meaning.{answerOf}
 use Rattle.transaction.specs.declared.Reply.{Reply}
 use Rattle.transaction.specs.Meaning.{afterOf, givenOf}

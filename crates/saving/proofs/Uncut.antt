@@ -24,8 +24,10 @@ use Rattle.powercut.specs.Commit.{commitList, commitOn, commitStart, madeAnswer
 use Rattle.powercut.specs.Advance.{RunOn, commitBarrier, commitMade, inCommit, numberIn}
 use Rattle.powercut.specs.WholeRun.{Accepted, Makes, Run, atFirst, holding, made, meets}
 use Rattle.powercut.specs.Claim.{new}
-use Rattle.powercut.proofs.RunMatches.{Input, concluded, list-length, live-is, start-left, start-none}
-use Rattle.powercut.proofs.PowerCut.{phase-end, phase-on, power-cut}
+use Rattle.powercut.proofs.Answers.{concluded, phase-end, phase-on, start-left, start-none}
+use Rattle.powercut.proofs.RunInput.{Input, live-is}
+use Rattle.powercut.proofs.RunMatches.{list-length}
+use Rattle.powercut.proofs.PowerCut.{power-cut}
 use Rattle.powercut.proofs.Parts.{commit-high}
 use Rattle.powercut.proofs.CommitOn.{commit-advances, commit-on-accepted}
 use Rattle.powercut.proofs.RunOn.{advance-runs}

@@ -28,7 +28,7 @@ use Rattle.rules.proofs.Tag.{spared, tag-enter, tag-enter-other, tag-overwrite,
 use Rattle.powercut.specs.WholeRun.{made}
 use Rattle.powercut.specs.History.{Ending}
 use Rattle.powercut.proofs.History.{ending}
-use Rattle.powercut.proofs.RunMatches.{call-answer}
+use Rattle.powercut.proofs.Answers.{call-answer}
 use Rattle.setups.specs.Setups.{lastSetup, numberTest, saveCall, saveCallAt, saveTests, saved, setupAt, setupSize, setupTag, sizeTest, unsaved}
 use Rattle.setups.specs.Table.{Bare, Table, TableRun, TenPlaces, emptyTable, isSetupTag, other, overwritten, place, refuse, save, start}
 use Rattle.setups.proofs.Saved.{save-passed, save-refused}

@@ -1,5 +1,8 @@
-// A commit cut and recovered in the pool R 2, C 2, Z 1: the bench example of document 01 on a cut with only seal A stored, and what a recovery
-// refuses. What is printed is compared with the stored values in `stdout`, which were worked out apart from this code.
+// A commit cut and recovered in the pool R 2, C 2, Z 1: the bench example of document 01 on a cut with only seal A stored, what a recovery
+// refuses, and one log overwritten after the cut. What is printed is compared with the stored values in `stdout`, which were worked out apart
+// from this code.
+mod scribbled; // one log overwritten after the cut
+
 use examples::calls::look;
 use examples::report::answer;
 use recovery::Recovery;
@@ -64,4 +67,5 @@ fn main() {
     seals(&mut pool);
     finished(&mut pool);
     headers(&mut pool);
+    scribbled::cases(&mut pool);
 }

@@ -328,7 +328,11 @@ pool_part pool_recall(const uint8_t *pool, size_t pool_length, size_t number);
 pool_obeyed pool_command(const uint8_t *line, size_t line_length, const uint8_t *setup, size_t setup_length, pool_errors errors,
                          const uint8_t *pool, size_t pool_length, uint8_t *staging, size_t staging_length, uint8_t *out, size_t out_length);
 
-/* ---- Recovery, after a power cut, before any other call on the pool. A recovery that is cut is started anew. */
+/*
+ * ---- Recovery, after a power cut, before any other call on the pool. A recovery that is cut is started anew. If the fault that cut the
+ * power also overwrote one log, and its seal is then zero or the log not valid, recovery is not refused, and the other log decides alone:
+ * the objects are all new if the commit's seal had reached it, else all old.
+ */
 
 /* Starts a recovery of this pool and makes no store. POOL_STARTED, or POOL_DONE with 0 if there is nothing to do; refusals 2, 3, 4, 22. */
 pool_recovery_reply pool_recover(const uint8_t *pool, size_t pool_length);

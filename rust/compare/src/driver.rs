@@ -1,6 +1,7 @@
 //! Commits and recoveries of the library, with barriers where it asks for them, until they end or the power fails. They are driven by the
 //! calls that go on to the next barrier, with single steps beside them: the pool after each step is what a cut inside the call meets, and
 //! at each barrier both ways must have come to the same bytes and the same answer.
+use crate::layout::{has_seal, pool_shape, valid_log, LOGS};
 use crate::memory::{Image, Memory};
 use crate::random::Random;
 use crate::staged::Staged;
@@ -58,13 +59,23 @@ pub fn commit(memory: &mut Memory, staged: &Staged, mut goes_on: impl FnMut(&Mem
     goes_on(memory, last)
 }
 
-/// Recovers, in no step or in those of a replay of so many entries; as `commit`.
-pub fn recover(memory: &mut Memory, entries: usize, mut goes_on: impl FnMut(&Memory, usize) -> bool) -> bool {
+/// Steps of a recovery of this pool: log A is replayed if valid, else log B if valid, else seals that are not zero are cleared.
+fn recovery_steps(pool: &[u8]) -> usize {
+    let shape = pool_shape(pool).expect("a valid header");
+    match LOGS.into_iter().find_map(|log| valid_log(shape, pool, log)) {
+        Some(entries) => 2 * entries + 5,
+        None if has_seal(pool) => 3,
+        None => 0,
+    }
+}
+
+/// Recovers; as `commit`.
+pub fn recover(memory: &mut Memory, mut goes_on: impl FnMut(&Memory, usize) -> bool) -> bool {
+    let last = recovery_steps(memory.seen());
     let start = linked::recover(memory.seen());
-    assert!([STARTED, DONE].contains(&start.kind) && start.value == 0, "{start:?}");
+    assert_eq!((start.kind, start.value), (if last == 0 { DONE } else { STARTED }, 0));
     let mut recovery = start.recovery;
     let mut advanced = Advanced(None);
-    let last = if start.kind == DONE { 0 } else { 2 * entries + 5 };
     for number in 1..=last {
         if !goes_on(memory, number - 1) {
             return false;
@@ -107,7 +118,7 @@ pub fn recover_with_random_cuts(random: &mut Random, mut image: Image, entries: 
     for cuts in 1.. {
         let cut_at = random.below(4 * entries + 10);
         let mut memory = Memory::new(image);
-        if recover(&mut memory, entries, |_, steps| steps != cut_at) {
+        if recover(&mut memory, |_, steps| steps != cut_at) {
             return (memory.seen().to_vec(), cuts);
         }
         image = memory.random_cut(random);

@@ -73,6 +73,11 @@ impl Shape {
         self.zone(number / (self.data() / 8)) + number % (self.data() / 8) * 8
     }
 
+    /// Whether the byte at this offset lies in a data row.
+    pub fn is_data(self, at: usize) -> bool {
+        (0..self.zones).any(|z| (self.zone(z)..self.zone(z) + self.data()).contains(&at))
+    }
+
     /// Where the parity byte of this byte of a data row lies.
     pub fn parity(self, at: usize) -> usize {
         let zone = self.zone((at - ZONES) / (self.data() + self.row()));
@@ -206,6 +211,26 @@ pub fn seal(entries: &[u8]) -> u64 {
     u64::from(check(entries)) | (entries.len() as u64 / 16) << 32 | 0xA51C << 48
 }
 
+/// The count of the log that begins here, if the log is valid: mark, count and check fit, and each target is a multiple of 8
+/// inside data rows, and none repeats.
+pub fn valid_log(shape: Shape, pool: &[u8], log: usize) -> Option<usize> {
+    let count = get(pool, log + 4, 2) as usize;
+    if !(1..=127).contains(&count) {
+        return None;
+    }
+    let entries = &pool[log + 16..][..16 * count];
+    let mut targets: Vec<usize> = entries.chunks(16).map(|entry| get(entry, 0, 8) as usize).collect();
+    let in_data = targets.iter().all(|&at| at % 8 == 0 && shape.is_data(at));
+    targets.sort_unstable();
+    targets.dedup();
+    (get(pool, log, 8) == seal(entries) && in_data && targets.len() == count).then_some(count)
+}
+
+/// Whether a seal is not zero.
+pub fn has_seal(pool: &[u8]) -> bool {
+    LOGS.iter().any(|&log| get(pool, log, 8) != 0)
+}
+
 /// A run: its first cell in its zone, its cells, and whether it is an object.
 #[derive(Clone, Copy, Debug, PartialEq, Eq)]
 pub struct Run {
@@ -284,7 +309,7 @@ pub fn objects(pool: &[u8]) -> Result<Vec<Object>, &'static str> {
     if pool.len() != shape.length() || pool[..PAGE] != pool[PAGE..2 * PAGE] {
         return Err("length or second header");
     }
-    if LOGS.iter().any(|&log| get(pool, log, 8) != 0) {
+    if has_seal(pool) {
         return Err("seal");
     }
     let mut parity = pool.to_vec();

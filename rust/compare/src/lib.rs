@@ -10,6 +10,7 @@ pub mod memory;
 pub mod pools;
 pub mod random;
 pub mod requests;
+pub mod scribble;
 pub mod setups;
 pub mod staged;
 pub mod trace;

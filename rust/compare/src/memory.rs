@@ -1,6 +1,6 @@
 //! Non-volatile memory as the pool's rules describe it: a barrier makes all stores reach memory; a power cut keeps
 //! any subset of the stores since the last barrier, each whole, in order.
-use crate::layout::{get, LOGS};
+use crate::layout::has_seal;
 use crate::random::{mix, Random};
 
 /// An aligned 8-byte store.
@@ -34,7 +34,7 @@ impl Image {
 
     /// Whether a seal is not zero.
     pub fn has_seal(&self) -> bool {
-        LOGS.iter().any(|&log| get(&self.pool, log, 8) != 0)
+        has_seal(&self.pool)
     }
 
     /// Makes a store; answers the store that takes it back.

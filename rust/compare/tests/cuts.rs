@@ -1,22 +1,48 @@
 //! Power cuts: commits and recoveries of the library over a model of non-volatile memory. Whatever a cut leaves, the
 //! first recovery that ends must give a sound pool, with all objects old if no seal of the commit had reached memory,
-//! else all new; and every lost page is then rebuilt.
-use compare::driver::{commit, commit_with_random_cuts, recover, steps_to_sealed, Ended};
+//! else all new; and every lost page is then rebuilt. If one log is overwritten after the first cut, so that it is not valid,
+//! the other log alone decides: all objects are new if the commit's seal there had reached memory, else old.
+use compare::driver::{commit, commit_steps, commit_with_random_cuts, recover, recover_with_random_cuts, steps_to_sealed, Ended};
 use compare::judge::{judge, lose_pages};
-use compare::layout::{objects, Object, Shape};
+use compare::layout::{get, objects, pool_shape, valid_log, Object, Shape, LOGS};
 use compare::memory::{Image, Memory};
 use compare::random::Random;
+use compare::scribble::{overwrite, Way, WAYS};
 use compare::staged::{change, Change, Staged};
 use compare::{pools, times};
 use std::collections::HashSet;
 
-/// Up to so many pending stores every subset is tried after every step of a commit; with at most so many entries also
-/// after every step of every recovery, however many cuts came before. Otherwise subsets are drawn, and a recovery is
-/// cut at steps that are drawn.
-const EVERY_SUBSET: usize = 12;
+/// How many cuts are tried. After every step of a commit every subset of up to so many pending stores is tried, and some of
+/// more. With at most so many entries every subset is tried after every step of every recovery, however many cuts came before;
+/// with more, subsets are drawn, at steps that are drawn: once in so many steps, for each entry.
+#[derive(Clone, Copy)]
+struct Effort {
+    pending: usize,
+    entries: usize,
+    drawn_once_in: usize,
+}
+
+const LOGS_AS_LEFT: Effort = Effort { pending: 12, entries: 12, drawn_once_in: 1 };
+
+/// Less, for each pool that a first cut leaves becomes some twenty.
+const LOG_OVERWRITTEN: Effort = Effort { pending: 8, entries: 6, drawn_once_in: 4 };
 
 /// So many pools of each transaction have each of their pages lost.
 const POOLS_WITH_LOSSES: usize = 20;
+
+impl Effort {
+    /// Cuts the power now, for the first time or again: the pools that may be left. Answers whether there was a cut.
+    fn cut(self, random: &mut Random, memory: &Memory, entries: usize, cuts: usize, keep: &mut impl FnMut(&Image)) -> bool {
+        match cuts {
+            1 if memory.pending() <= self.pending => memory.every_cut(keep),
+            1 => memory.some_cuts(random, 8, keep),
+            _ if entries <= self.entries => memory.every_cut(keep),
+            2..=4 if random.once_in(self.drawn_once_in * entries) => keep(&memory.random_cut(random)),
+            _ => return false,
+        }
+        true
+    }
+}
 
 #[derive(Default)]
 struct Counts {
@@ -29,6 +55,15 @@ struct Counts {
 }
 
 impl Counts {
+    /// A commit, cut and recovered so many times, and its pool judged.
+    fn count_ended(&mut self, cuts: usize) {
+        self.commits += 1;
+        self.cuts += cuts;
+        self.subsets += cuts;
+        self.recoveries += cuts;
+        self.pools += 1;
+    }
+
     fn print(&self) {
         let Counts { commits, cuts, subsets, recoveries, pools, pages } = self;
         println!("{commits} commits, {cuts} cuts, {subsets} subsets of pending stores, {recoveries} recoveries");
@@ -43,9 +78,65 @@ struct Left {
     cuts: usize,
 }
 
+/// A pool that the first cut of a commit left, whether the commit's seal has reached log A, and log B, and the number of entries.
+struct FirstCut {
+    image: Image,
+    reached: [bool; 2],
+    entries: usize,
+}
+
+impl FirstCut {
+    /// A cut after so many steps: a seal has reached memory if the barrier after the seals was passed, or the cut has kept it.
+    fn new(image: Image, steps: usize, entries: usize) -> FirstCut {
+        let reached = LOGS.map(|log| steps >= steps_to_sealed(entries) || get(&image.pool, log, 8) != 0);
+        FirstCut { image, reached, entries }
+    }
+}
+
+/// What was overwritten: pools that a first cut left; overwritings in each way; those left out, since they left a valid log; and
+/// those made, by whether the commit's seal had reached the log overwritten, and whether it had reached the other log.
+#[derive(Default)]
+struct Overwritings {
+    pools: usize,
+    made: [usize; WAYS.len()],
+    left_out: usize,
+    by_seals: [[usize; 2]; 2],
+}
+
+impl Overwritings {
+    /// The pool with this log overwritten in this way, unless that leaves a valid log. All objects must be new if the commit's
+    /// seal has reached the other log.
+    fn make(&mut self, random: &mut Random, cut: &FirstCut, log: usize, way: Way) -> Option<Left> {
+        let shape = pool_shape(&cut.image.pool).expect("a valid header");
+        let mut pool = cut.image.pool.clone();
+        overwrite(random, shape, &mut pool, LOGS[log], cut.entries, way);
+        if valid_log(shape, &pool, LOGS[log]).is_some() {
+            self.left_out += 1;
+            return None;
+        }
+        let (this, other) = (cut.reached[log], cut.reached[1 - log]);
+        self.made[way as usize] += 1;
+        self.by_seals[usize::from(this)][usize::from(other)] += 1;
+        Some(Left { image: Image::new(pool), new: other, cuts: 1 })
+    }
+
+    fn print(&self) {
+        let Overwritings { pools, made, left_out, by_seals } = self;
+        println!("{pools} pools left by a first cut, {} overwritings of a log, {left_out} left out", made.iter().sum::<usize>());
+        println!("each way {made:?}; a seal in neither log, in the other alone, in this alone, in both: {by_seals:?}");
+    }
+
+    /// At least so many pools were met, and every way and every case of seals.
+    fn assert_all_met(&self, pools: usize) {
+        assert!(self.pools >= pools, "{} pools", self.pools);
+        assert!(!self.made.contains(&0) && !self.by_seals.as_flattened().contains(&0));
+    }
+}
+
 /// One transaction with all its cuts.
 struct Explorer<'a> {
     entries: usize,
+    effort: Effort,
     old: Vec<Object>,
     new: Vec<Object>,
     random: &'a mut Random,
@@ -55,7 +146,13 @@ struct Explorer<'a> {
     judged: HashSet<(u64, bool)>,
 }
 
-impl Explorer<'_> {
+impl<'a> Explorer<'a> {
+    fn new(pool: &[u8], staged: &Staged, effort: Effort, random: &'a mut Random, counts: &'a mut Counts) -> Explorer<'a> {
+        let (old, new) = (objects(pool).unwrap(), staged.new.clone());
+        let (known, left, judged) = (HashSet::new(), Vec::new(), HashSet::new());
+        Explorer { entries: staged.transaction.count, effort, old, new, random, counts, known, left, judged }
+    }
+
     /// Commits, then recovers every pool that a cut of the commit or of a recovery leaves. Answers the pool of the
     /// uncut commit.
     fn explore(&mut self, pool: &[u8], staged: &Staged) -> Vec<u8> {
@@ -66,22 +163,58 @@ impl Explorer<'_> {
         });
         self.counts.commits += 1;
         self.judge(memory.seen(), true);
+        self.recover_left();
+        memory.seen().to_vec()
+    }
+
+    /// Commits; in every pool that a cut of the commit leaves each log is overwritten in each way; then recovers these pools, and
+    /// every pool that a cut of a recovery leaves.
+    fn overwrite(&mut self, pool: &[u8], staged: &Staged, overwritings: &mut Overwritings) {
+        let mut memory = Memory::new(Image::new(pool.to_vec()));
+        let mut met = HashSet::new();
+        commit(&mut memory, staged, |memory, steps| {
+            let mut images = Vec::new();
+            self.effort.cut(self.random, memory, self.entries, 1, &mut |image| images.push(image.clone()));
+            self.counts.cuts += 1;
+            self.counts.subsets += images.len();
+            for image in images {
+                let cut = FirstCut::new(image, steps, self.entries);
+                if met.insert((cut.image.key, cut.reached)) {
+                    self.overwrite_logs(&cut, overwritings);
+                }
+            }
+            self.recover_left();
+            true
+        });
+        self.counts.commits += 1;
+    }
+
+    /// Notes the pools with one log overwritten.
+    fn overwrite_logs(&mut self, cut: &FirstCut, overwritings: &mut Overwritings) {
+        overwritings.pools += 1;
+        for log in [0, 1] {
+            let made: Vec<Left> = WAYS.into_iter().filter_map(|way| overwritings.make(self.random, cut, log, way)).collect();
+            assert!(made.len() >= 8, "each log is overwritten in at least eight ways");
+            self.left.extend(made.into_iter().filter(|left| self.known.insert((left.image.key, left.new))));
+        }
+    }
+
+    fn recover_left(&mut self) {
         while let Some(Left { image, new, cuts }) = self.left.pop() {
             let mut memory = Memory::new(image);
-            recover(&mut memory, self.entries, |memory, _| {
+            recover(&mut memory, |memory, _| {
                 self.cut(memory, new, cuts + 1);
                 true
             });
             self.counts.recoveries += 1;
             self.judge(memory.seen(), new);
         }
-        memory.seen().to_vec()
     }
 
     /// Notes the pools that a power cut leaves now. All objects must be new if a seal has reached memory before, or is
     /// kept by the first cut.
     fn cut(&mut self, memory: &Memory, sealed: bool, cuts: usize) {
-        let Explorer { entries, random, known, left, counts, .. } = self;
+        let Explorer { known, left, counts, .. } = self;
         let mut keep = |image: &Image| {
             counts.subsets += 1;
             let new = sealed || cuts == 1 && image.has_seal();
@@ -89,16 +222,7 @@ impl Explorer<'_> {
                 left.push(Left { image: image.clone(), new, cuts });
             }
         };
-        if memory.pending() <= EVERY_SUBSET && (cuts == 1 || *entries <= EVERY_SUBSET) {
-            memory.every_cut(&mut keep);
-        } else if cuts == 1 {
-            memory.some_cuts(random, 8, &mut keep);
-        } else if cuts <= 4 && random.once_in(*entries) {
-            keep(&memory.random_cut(random));
-        } else {
-            return;
-        }
-        counts.cuts += 1;
+        counts.cuts += usize::from(self.effort.cut(self.random, memory, self.entries, cuts, &mut keep));
     }
 
     fn judge(&mut self, pool: &[u8], new: bool) {
@@ -125,20 +249,24 @@ fn staged(pool: &[u8], changes: &[Change]) -> Staged {
     staged
 }
 
-/// Transactions one after the other on one pool, each with the number of its entries, explored.
+/// Transactions one after the other on one pool, each with the number of its entries, explored: with one log overwritten after
+/// the first cut, and with the logs as the cuts leave them.
 fn explore(rows: usize, cols: usize, zones: usize, transactions: &[(usize, &[Change])]) {
     let (mut random, mut counts) = (seeded(4), Counts::default());
+    let (mut more_random, mut more_counts, mut overwritings) = (seeded(6), Counts::default(), Overwritings::default());
     let mut pool = vec![0xEE; Shape { rows, cols, zones }.length()];
     assert_eq!(linked::format(&mut pool, rows, cols, zones, 7), 0);
     for &(entries, changes) in transactions {
         let staged = staged(&pool, changes);
         assert_eq!(staged.transaction.count, entries);
-        let (old, new) = (objects(&pool).unwrap(), staged.new.clone());
-        let (known, left, judged) = (HashSet::new(), Vec::new(), HashSet::new());
-        let mut explorer = Explorer { entries, old, new, random: &mut random, counts: &mut counts, known, left, judged };
-        pool = explorer.explore(&pool, &staged);
+        Explorer::new(&pool, &staged, LOG_OVERWRITTEN, &mut more_random, &mut more_counts).overwrite(&pool, &staged, &mut overwritings);
+        pool = Explorer::new(&pool, &staged, LOGS_AS_LEFT, &mut random, &mut counts).explore(&pool, &staged);
     }
     counts.print();
+    println!("with one log overwritten:");
+    more_counts.print();
+    overwritings.print();
+    overwritings.assert_all_met(1_500);
 }
 
 fn allocate(length: usize) -> Change {
@@ -204,11 +332,7 @@ fn transactions_in_turn_with_random_cuts() {
 
 fn random_transaction(random: &mut Random, counts: &mut Counts, pool: Vec<u8>) -> Vec<u8> {
     let old = objects(&pool).expect("the pool is sound");
-    let mut staged = Staged::new(&pool, &old);
-    for _ in 0..random.from_to(1, 6) {
-        let change = change(random, &staged.new);
-        staged.stage(&pool, &change);
-    }
+    let staged = random_changes(random, &pool, &old);
     if staged.transaction.count == 0 {
         let reply = linked::commit(staged.transaction, &pool, &staged.staging);
         assert_eq!((reply.kind, reply.value), (linked::DONE, 0));
@@ -216,10 +340,61 @@ fn random_transaction(random: &mut Random, counts: &mut Counts, pool: Vec<u8>) -
     }
     let Ended { pool, new, cuts } = commit_with_random_cuts(random, pool, &staged);
     judge(&pool, if new { &staged.new } else { &old });
-    counts.commits += 1;
-    counts.cuts += cuts;
-    counts.subsets += cuts;
-    counts.recoveries += cuts;
-    counts.pools += 1;
+    counts.count_ended(cuts);
     pool
+}
+
+fn random_changes(random: &mut Random, pool: &[u8], old: &[Object]) -> Staged {
+    let mut staged = Staged::new(pool, old);
+    for _ in 0..random.from_to(1, 6) {
+        let change = change(random, &staged.new);
+        staged.stage(pool, &change);
+    }
+    staged
+}
+
+/// Random transactions in turn, each cut at any step and then one of its logs overwritten, so that what was scribbled lies in the
+/// logs when the next one is committed.
+#[test]
+fn transactions_in_turn_with_a_log_overwritten() {
+    let (mut random, mut counts, mut overwritings) = (seeded(7), Counts::default(), Overwritings::default());
+    for _ in 0..500 * times() {
+        let shape = pools::shape(&mut random);
+        let mut pool = pools::filled(&mut random, shape);
+        for _ in 0..20 {
+            pool = overwritten_transaction(&mut random, &mut counts, &mut overwritings, pool);
+        }
+        counts.pages += lose_pages(&mut random, &pool);
+    }
+    counts.print();
+    overwritings.print();
+    overwritings.assert_all_met(9_000 * times());
+}
+
+fn overwritten_transaction(random: &mut Random, counts: &mut Counts, overwritings: &mut Overwritings, pool: Vec<u8>) -> Vec<u8> {
+    let old = objects(&pool).expect("the pool is sound");
+    let staged = random_changes(random, &pool, &old);
+    let entries = staged.transaction.count;
+    if entries == 0 {
+        return pool;
+    }
+    let steps = random.below(commit_steps(entries) + 1);
+    let mut memory = Memory::new(Image::new(pool));
+    assert!(!commit(&mut memory, &staged, |_, made| made != steps));
+    let cut = FirstCut::new(memory.random_cut(random), steps, entries);
+    overwritings.pools += 1;
+    let Left { image, new, .. } = overwrite_any(random, &cut, overwritings);
+    let (pool, cuts) = recover_with_random_cuts(random, image, entries);
+    judge(&pool, if new { &staged.new } else { &old });
+    counts.count_ended(cuts);
+    pool
+}
+
+/// One of the logs overwritten, in one of the ways, until that leaves no valid log.
+fn overwrite_any(random: &mut Random, cut: &FirstCut, overwritings: &mut Overwritings) -> Left {
+    let tries = (0..100).map(|_| {
+        let (log, way) = (random.below(2), random.pick(&WAYS));
+        overwritings.make(random, cut, log, way)
+    });
+    tries.flatten().next().expect("one of the ways leaves no valid log")
 }

@@ -4,7 +4,7 @@
 //! the other log alone decides: all objects are new if the commit's seal there had reached memory, else old.
 use compare::driver::{commit, commit_steps, commit_with_random_cuts, recover, recover_with_random_cuts, steps_to_sealed, Ended};
 use compare::judge::{judge, lose_pages};
-use compare::layout::{get, objects, pool_shape, valid_log, Object, Shape, LOGS};
+use compare::layout::{get, objects, pool_shape, put, seal, valid_log, Object, Shape, LARGEST, LOGS};
 use compare::memory::{Image, Memory};
 use compare::random::Random;
 use compare::scribble::{overwrite, Way, WAYS};
@@ -267,6 +267,31 @@ fn explore(rows: usize, cols: usize, zones: usize, transactions: &[(usize, &[Cha
     more_counts.print();
     overwritings.print();
     overwritings.assert_all_met(1_500);
+}
+
+/// A pool with a log of these targets, sealed: its count, if the tests judge it valid.
+fn judged_log(shape: Shape, targets: &[usize], change: impl FnOnce(&mut [u8])) -> Option<usize> {
+    let mut pool = vec![0; shape.length()];
+    let entries = pools::entries(&mut Random::new(8), &pool, targets, false);
+    put(&mut pool, LOGS[1], 8, seal(&entries));
+    pool[LOGS[1] + 16..][..entries.len()].copy_from_slice(&entries);
+    change(&mut pool[LOGS[1]..]);
+    valid_log(shape, &pool, LOGS[1])
+}
+
+#[test]
+fn the_judge_of_logs() {
+    let shape = Shape { rows: 2, cols: 1, zones: 2 };
+    let (first, last) = (shape.zone(0), shape.zone(1) + shape.data() - 8);
+    assert_eq!(judged_log(shape, &[last, first], |log| log[8] = 1), Some(2));
+    for wrong in [first, last + 4, last + 8, first + shape.data(), first - 8, 0, shape.length(), usize::MAX - 7] {
+        assert_eq!(judged_log(shape, &[last, first, wrong], |_| ()), None, "target {wrong}");
+    }
+    for (byte, bit) in (0..8).chain(16..48).flat_map(|byte| (0..8).map(move |bit| (byte, bit))) {
+        assert_eq!(judged_log(shape, &[last, first], |log| log[byte] ^= 1 << bit), None, "bit {bit} of byte {byte}");
+    }
+    let words: Vec<usize> = (0..128).map(|i| LARGEST.zone(0) + 8 * i).collect();
+    assert_eq!([0, 1, 127, 128].map(|count| judged_log(LARGEST, &words[..count], |_| ())), [None, Some(1), Some(127), None]);
 }
 
 fn allocate(length: usize) -> Change {

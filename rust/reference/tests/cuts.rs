@@ -230,7 +230,7 @@ fn is_valid(log: &[u8], (rows, cols, zones): Shape) -> bool {
 /// Overwrites a log, after a cut of a commit with so many entries.
 fn overwrite(log: &mut [u8], count: usize, random: &mut Random) {
     let entry = 16 + 16 * random.below(count);
-    match random.below(9) {
+    match random.below(10) {
         0 => log.fill(0),
         1 => log.fill(0xFF),
         2 => log.copy_from_slice(&random.bytes(2048)),
@@ -242,16 +242,41 @@ fn overwrite(log: &mut [u8], count: usize, random: &mut Random) {
             log[8..16].copy_from_slice(&random.bytes(8));
             log[entry..entry + 16].copy_from_slice(&random.bytes(16));
         }
-        _ => put_older(log, &random.bytes(8)),
+        8 => {
+            put_log(log, [ZONES, ZONES + 8], random);
+            log[0] ^= 1;
+        }
+        _ => put_log(log, [ZONES, WRONG[random.below(4)]], random),
     }
 }
 
-/// A log with one entry, for the first data word, and with a wrong check.
-fn put_older(log: &mut [u8], word: &[u8]) {
-    log[16..24].copy_from_slice(&ZONES.to_le_bytes());
-    log[24..32].copy_from_slice(word);
-    let seal = (sums(&log[16..32]) ^ 1) | 1 << 32 | 0xA51C << 48;
+/// The second target of a log that is not valid: the first one again, one that is not aligned, a seal, or parity in the pool R 1, C 1.
+const WRONG: [usize; 4] = [ZONES, ZONES + 12, 512, ZONES + 256];
+
+/// A sealed log with two entries: these targets, with random words.
+fn put_log(log: &mut [u8], targets: [usize; 2], random: &mut Random) {
+    for (entry, target) in log[16..48].chunks_mut(16).zip(targets) {
+        entry[..8].copy_from_slice(&target.to_le_bytes());
+        entry[8..].copy_from_slice(&random.bytes(8));
+    }
+    let seal = sums(&log[16..48]) | 2 << 32 | 0xA51C << 48;
     log[..8].copy_from_slice(&seal.to_le_bytes());
+}
+
+#[test]
+fn the_judge_of_logs() {
+    let (mut log, mut random) = (vec![0xEE; 2048], Random(1));
+    put_log(&mut log, [ZONES, ZONES + 8], &mut random);
+    assert!(is_valid(&log, (1, 1, 1)));
+    for (byte, bit) in (0..8).chain(16..48).flat_map(|byte| (0..8).map(move |bit| (byte, bit))) {
+        let mut turned = log.clone();
+        turned[byte] ^= 1 << bit;
+        assert!(!is_valid(&turned, (1, 1, 1)), "bit {bit} of byte {byte}");
+    }
+    for wrong in WRONG {
+        put_log(&mut log, [ZONES, wrong], &mut random);
+        assert!(!is_valid(&log, (1, 1, 1)), "target {wrong}");
+    }
 }
 
 /// The pool with this log overwritten, until the log is not valid.

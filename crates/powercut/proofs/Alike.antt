@@ -26,7 +26,7 @@ use Rattle.powercut.specs.Scribble.{other}
 use Rattle.powercut.proofs.FinalPool.{Entry, par-cong, par-small, zones-fit}
 use Rattle.powercut.proofs.Logs.{even-log, in-log, not-valid, place}
 use Rattle.powercut.proofs.CrashSafe.{CrashSafe}
-use Rattle.powercut.proofs.Untouched.{entries-same}
+use Rattle.powercut.proofs.Untouched.{Each, each-append, entries-same}
 
 -- whether a log is valid hangs on its first 2,048 bytes alone: what stands before its entries, and 127 of these
 pub valid-same : (sh : Shape) (p q : List ℕ) (a : ℕ) → ((i : ℕ) → i < 2048 → getD p (a + i) 0 ≡ getD q (a + i) 0) → valid sh p a ≡ valid sh q a
@@ -50,8 +50,7 @@ module _ (sh : Shape) where
   RedoStep barrier = Unit {0}
 
   abbrev pub RedoSteps : List Step → Type 0
-  RedoSteps [] = Unit {0}
-  RedoSteps (x ∷ xs) = RedoStep x × RedoSteps xs
+  RedoSteps = Each RedoStep
 
   redo-fit : (xs : List Store) → All RedoStore xs → All (Fit (poolSize sh)) xs
   redo-fit xs h = all-map {Q = RedoStore} {Q′ = Fit (poolSize sh)} (λ a w k. k .0) xs h
@@ -154,7 +153,7 @@ module _ (sh : Shape) (l : Log) (g : Good sh) where
       (same-lay (s .base) (s′ .base) kept (a .pool) (a .length-is) (redo-fit sh kept k), lay-zero (s′ .base) kept (sym (a .pool .size) ∙ a .length-is) k (a .zero))
 
   -- so the pools that the next call meets differ in log l alone
-  views : (s s′ : State) → Alike sh l s s′ → SameOff sh l (view s) (view s′)
+  pub views : (s s′ : State) → Alike sh l s s′ → SameOff sh l (view s) (view s′)
   views s s′ a = subst (λ (ys : List Store). SameOff sh l (view s) (lay (s′ .base) ys)) (a .pend) (alike-cut s s′ a (s .pend) (Sublistᴰ·refl (s .pend)) .0)
 
   module _ (es : List Store) where
@@ -204,13 +203,9 @@ module _ (sh : Shape) (g : Good sh) where
     fit : (l : Log) → Fit (poolSize sh) (logAt sh l) 0
     fit l = record { even = even-log sh l g; inside = in-log sh l g; small = zero-lt-suc _ }
 
-  steps-append : (xs ys : List Step) → RedoSteps sh xs → RedoSteps sh ys → RedoSteps sh (xs ++ ys)
-  steps-append [] ys h k = k
-  steps-append (x ∷ xs) ys h k = (h .0, steps-append xs ys (h .1) k)
-
   pub redo-steps : (es : List Store) → All (Entry sh) es → RedoSteps sh (redo sh es)
   unfolding redo
-  redo-steps es h = steps-append (map store es) _ (stores es h) (tt, steps-append (map parity es) _ (parities es h) (tt, clear-steps)) where
+  redo-steps es h = each-append (RedoStep sh) (map store es) _ (stores es h) (tt, each-append (RedoStep sh) (map parity es) _ (parities es h) (tt, clear-steps)) where
     stores : (l : List Store) → All (Entry sh) l → RedoSteps sh (map store l)
     stores [] h = tt
     stores (e ∷ l) h = let i = h .0 .target .inside in ((zones-fit sh g (e .at) (e .val) i (h .0 .small), inl (i .low)), stores l (h .1))

@@ -25,7 +25,7 @@ use Rattle.powercut.proofs.StepRun.{Clean, Entries, StepRun, atCommit}
 use Rattle.powercut.proofs.FinalPool.{Setting}
 use Rattle.powercut.proofs.Logs.{even-log, in-log}
 use Rattle.powercut.proofs.CrashSafe.{CrashSafe, makes-stores, phase, safe-now, safe-step, st}
-use Rattle.powercut.proofs.Redo.{AfterCut, CleanAt, CutLog, Done, ReplayAt, Source, even-A, even-B, in-A, in-B, logs, redo-crash-safe}
+use Rattle.powercut.proofs.Redo.{AfterCut, CleanAt, CutLog, Done, ReplayAt, Source, clean-seal, logs, redo-crash-safe}
 use Rattle.powercut.proofs.CommitCrashSafe.{Apart, R₁, SealStore, b₁, clean-old, is-seal, l₁, logs-R₁, no-seals, p₁, sealed, seals-all}
 use Rattle.powercut.proofs.StepRunClaim.{setting}
 use Rattle.powercut.proofs.StepPool.{along-commit, reached-act}
@@ -56,12 +56,6 @@ log-place sh fromA a e = inl e
 log-place sh fromB a e = inr e
 
 module _ (sh : Shape) (es : List Store) (p₀ : List ℕ) (c : Setting sh es p₀) (l : Log) where
-  clean-zero : (p : List ℕ) (r : Bool) → CleanAt sh es p₀ p r → word p (logAt sh l) ≡ 0
-  clean-zero p r h = go l where
-    go : (l : Log) → word p (logAt sh l) ≡ 0
-    go fromA = h .every (logA sh) (even-A sh es p₀ c) (in-A sh es p₀ c) .sa refl
-    go fromB = h .every (logB sh) (even-B sh es p₀ c) (in-B sh es p₀ c) .sb refl
-
   logs-apart : logAt sh (other l) ≢ logAt sh l
   unfolding other
   logs-apart = go l where
@@ -79,7 +73,7 @@ module _ (sh : Shape) (es : List Store) (p₀ : List ℕ) (c : Setting sh es p�
       let none = no-seals sh es kept (all-map {Q = R₁ sh es p₀ c} {Q′ = Apart sh es} (λ a w x. x .1) kept k) in
       let h = clean-old sh es p₀ c kept k in
       subst (λ (b : Bool). Spared sh es p₀ l b (lay p₀ kept)) (sym (none-in sh es (other l) kept none))
-      (record { counterpart = lay p₀ kept; same = same-off sh l (lay p₀ kept); after = inl h; zero = clean-zero (lay p₀ kept) false h })
+      (record { counterpart = lay p₀ kept; same = same-off sh l (lay p₀ kept); after = inl h; zero = clean-seal sh es p₀ (c .good) (lay p₀ kept) false h l })
 
   -- ---- part 2: of the stores kept, those of the other log's seal
 
@@ -145,7 +139,7 @@ module _ (sh : Shape) (es : List Store) (p₀ : List ℕ) (c : Setting sh es p�
 
   other-zero : (ys : List Store) → All OtherSeal ys → word (lay (p₁ sh es p₀ c) ys) (logAt sh l) ≡ 0
   other-zero ys h =
-      lay-every (λ a w. a ≡ logAt sh l → w ≡ 0) (p₁ sh es p₀ c) ys (l₁ sh es p₀ c) (λ a ha hn e. ap (word (p₁ sh es p₀ c)) e ∙ clean-zero (p₁ sh es p₀ c) false clean₁)
+      lay-every (λ a w. a ≡ logAt sh l → w ≡ 0) (p₁ sh es p₀ c) ys (l₁ sh es p₀ c) (λ a ha hn e. ap (word (p₁ sh es p₀ c)) e ∙ clean-seal sh es p₀ (c .good) (p₁ sh es p₀ c) false clean₁ l)
       (all-map {Q = OtherSeal} {Q′ = Fit (poolSize sh)} (λ a w x. x .0) ys h)
       (all-map {Q = OtherSeal} {Q′ = λ a w. a ≡ logAt sh l → w ≡ 0} (λ a w x e. absurd (logs-apart (sym (x .1) ∙ e))) ys h)
       (logAt sh l) (even-log sh l (c .good)) (in-log sh l (c .good)) refl

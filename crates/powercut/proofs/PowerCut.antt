@@ -23,7 +23,7 @@ use Rattle.rules.proofs.Stores.{bytes-lay, length-lay}
 use Rattle.rules.proofs.StagedBook.{held-end}
 use Rattle.rules.proofs.Sound.{begun-is, repair-restores, sound-again, sound-fits}
 use Rattle.powercut.specs.Log.{Log}
-use Rattle.powercut.specs.Steps.{Remedy, clear, neither, nothing, parity, recoverySteps, remedy, replay, stepPool, stepsMade}
+use Rattle.powercut.specs.Steps.{Remedy, nothing, parity, recoverySteps, remedy, replay, stepPool, stepsMade}
 use Rattle.powercut.specs.Power.{State, act, view}
 use Rattle.powercut.specs.Commit.{commitList, commitNext, commitStart, commitStep, commitTests, isCommitting, nextPhase, placeIn, startPhase}
 use Rattle.powercut.specs.Recovery.{Progress, Recovery, finished, recovering, recoveryList, recoveryNext, recoveryStart, recoveryStep, startRecovery}
@@ -36,7 +36,7 @@ use Rattle.powercut.proofs.StepPool.{uncut-view, view-act}
 use Rattle.powercut.proofs.Answers.{accepted-start, accepted-step, not-impossible, phase-end, phase-on, place-is, start-left, start-none, step-left}
 use Rattle.powercut.proofs.RunInput.{HeadersKept, Input, count-is, few, held, id-is, left-staging, live-is, opens, same-head, shape-is, targets}
 use Rattle.powercut.proofs.RunMatches.{CommitMatches, RecoveryMatches, claim, commit-some, entries-met, front-kept, list-met, run-matches, some-step-run, step-run-resuming, steps-length}
-use Rattle.powercut.proofs.Resuming.{ends, ends-here, ends-onward, restart, taken}
+use Rattle.powercut.proofs.Resuming.{ends, ends-here, ends-onward, restart, restarts as phases, taken}
 use Rattle.rules.proofs.Bool.{split}
 use Rattle.rules.proofs.Transaction.{calls-short}
 
@@ -181,24 +181,16 @@ module _ (inp : Input) where
       × ((recoveryStart (view s) .recovery .phase ≡ finished) ⊎ ((recoveryStart (view s) .recovery .phase ≡ recovering 0) × (s .reached ≡ true)))
   restarted s r =
       let c = run-matches inp r in
-      let a = restart inp (StepRun sh es pool) (step-run-resuming inp) s c in (
-        a .0,
-        subst (λ (x : Recovery). (x .phase ≡ finished) ⊎ ((x .phase ≡ recovering 0) × (s .reached ≡ true))) (sym (a .1))
-            (⊎-elim (λ e. inl (over e)) (phases (remedy sh (view s))) (claim inp .sealed s c)),
-      )
+      let a = restart inp (StepRun sh es pool) (step-run-resuming inp) s c in
+      let p = phases inp (StepRun sh es pool) (step-run-resuming inp) s c in
+      (a .0, ⊎-elim (λ e. inl (ap (λ (x : Recovery). x .phase) (a .1) ∙ over e)) (λ h. ⊎-elim inl (λ k. inr (k, h)) (p .1)) (claim inp .sealed s c))
     where
       over : {q : Remedy} → q ≡ nothing → startRecovery (view s) q .recovery .phase ≡ finished
       over e = unfold startRecovery in (ap (λ (q : Remedy). startRecovery (view s) q .recovery .phase) e)
 
-      phases : (q : Remedy) → s .reached ≡ true → (startRecovery (view s) q .recovery .phase ≡ finished) ⊎ ((startRecovery (view s) q .recovery .phase ≡ recovering 0) × (s .reached ≡ true))
-      phases (replay l n) h = inr (unfold startRecovery in refl, h)
-      phases clear h = inr (unfold startRecovery in refl, h)
-      phases nothing h = inl (unfold startRecovery in refl)
-      phases neither h = inl (unfold startRecovery in refl)
-
   restarts : (s : State) → Run pool staging ks cutOff s
       → Accepted (recoveryStart (view s) .answer) × ((recoveryStart (view s) .recovery .phase ≡ finished) ⊎ (recoveryStart (view s) .recovery .phase ≡ recovering 0))
-  restarts s r = let i = restarted s r in (i .0, ⊎-elim inl (λ h. inr (h .0)) (i .1))
+  restarts s r = phases inp (StepRun sh es pool) (step-run-resuming inp) s (run-matches inp r)
 
   -- a recovery that has a step to make replays a log with all entries
   pub running-replay : (q : Remedy) (s : State) (k : ℕ) → RecoveryMatches inp q (recovering k) s → (l : Log) × (q ≡ replay l (length es))

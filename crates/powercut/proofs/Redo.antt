@@ -13,9 +13,9 @@ use Rattle.rules.specs.Words.{Bytes, word}
 use Rattle.rules.specs.Shape.{Shape, logA, logB, parityAt, poolSize, zonesAt}
 use Rattle.rules.specs.Staging.{Store, lay}
 use Rattle.rules.specs.Parity.{parityWord}
-use Rattle.rules.proofs.Shape.{InData, fits, row-in, size-eq}
+use Rattle.rules.proofs.Shape.{Good, InData, fits, row-in, size-eq}
 use Rattle.rules.proofs.Stores.{All, Covered, Every, Fact, Fit, Right, all-covered, all-map, all-sub, bytes-lay, covered-fact, covered?, lay-every, lay-fact, length-lay, right-all, uncovered-right}
-use Rattle.powercut.specs.Log.{fromA, fromB, sealOf}
+use Rattle.powercut.specs.Log.{Log, fromA, fromB, logAt, sealOf}
 use Rattle.powercut.specs.Steps.{Step, barrier, logStores, parity, redo, seals, store}
 use Rattle.powercut.specs.Power.{State, anySeal, view}
 use Rattle.powercut.proofs.FinalPool.{Entry, ParityW, Setting, entries-fit, final-bytes, final-parity, final-target, finalPool, par-cong, par-small, parStores, pars-cover, pars-row, zones-fit}
@@ -96,6 +96,11 @@ module _ (sh : Shape) (es : List Store) (p₀ : List ℕ) where
 
   abbrev pub Done : State → Type 0
   Done s = (s .pend ≡ []) × CleanAt (s .base) (s .reached) × (s .reached ≡ true)
+
+-- either seal of a clean pool is zero
+pub clean-seal : (sh : Shape) (es : List Store) (p₀ : List ℕ) → Good sh → (p : List ℕ) (r : Bool) → CleanAt sh es p₀ p r → (l : Log) → word p (logAt sh l) ≡ 0
+clean-seal sh es p₀ g p r h fromA = h .every (logA sh) (even-log sh fromA g) (in-log sh fromA g) .sa refl
+clean-seal sh es p₀ g p r h fromB = h .every (logB sh) (even-log sh fromB g) (in-log sh fromB g) .sb refl
 
 -- a fact, with that the store can be made
 abbrev pub With : Shape → Fact → Fact

@@ -3,7 +3,7 @@
 use mathlib.Core.Path.{_≡_, refl, sym, ap, _∙_, subst}
 use mathlib.Core.Logic.{_⊎_, inl, inr}
 use mathlib.Core.Bool.{Bool, true, false, _||_}
-use mathlib.Core.List.{List, [], _∷_, _++_, append-assoc, map, Sublistᴰ, Sublistᴰ·eq-nil, Sublistᴰ·refl}
+use mathlib.Core.List.{List, [], _∷_, _++_, map, Sublistᴰ, Sublistᴰ·eq-nil, Sublistᴰ·refl}
 use Prim.Native.Nat.{ℕ, suc, _+_, _*_, _%_, _<_}
 use native.Mathlib.Nat.{zero-lt-suc, le-refl}
 use native.Mathlib.Decide.{ℕ-discrete}
@@ -24,11 +24,11 @@ use Rattle.powercut.proofs.StepRun.{Position, atCommit, atCut, atRecove
 use Rattle.powercut.proofs.FinalPool.{Setting}
 use Rattle.powercut.proofs.Logs.{even-log, in-log, log-reads, not-valid, remedy-nothing, seal-count, valid-sealed}
 use Rattle.powercut.proofs.CrashSafe.{CrashSafe, makes-stores, phase, safe-end, safe-now, safe-step, st}
-use Rattle.powercut.proofs.Redo.{AfterCut, CleanAt, CutLog, Done, Facts, Is, Outside, ReplayAt, SealPair, Source, With, lay-with, new, redo-crash-safe}
+use Rattle.powercut.proofs.Redo.{AfterCut, CleanAt, CutLog, Done, Facts, Is, Outside, ReplayAt, SealPair, Source, With, clean-seal, lay-with, new, redo-crash-safe}
 use Rattle.powercut.proofs.StepCount.{redo-count}
 use Rattle.powercut.proofs.StepPool.{reached-act, view-act}
-use Rattle.powercut.proofs.Alike.{Alike, Off, RedoStore, RedoStep, SameOff, alike-act, alike-cut, clear-steps, lay-lost, lift, lost-act, off-headers, off-other, off-zones, redo-steps, same-word}
-use Rattle.powercut.proofs.Untouched.{entries-same}
+use Rattle.powercut.proofs.Alike.{Alike, Off, RedoStore, RedoStep, SameOff, alike-act, alike-cut, clear-steps, lay-lost, lift, lost-act, off-headers, off-other, off-zones, redo-steps, same-word, views}
+use Rattle.powercut.proofs.Untouched.{entries-same, words, words-redo}
 
 -- each log is l or the other one
 both-logs : (P : Log → Type 0) (l : Log) → P l → P (other l) → (x : Log) → P x
@@ -92,11 +92,9 @@ module _ (sh : Shape) (es : List Store) where
     ends-cleared (x ∷ xs) s e = (tt, ends-cleared xs (act sh es x s) (length-act x s ∙ e))
 
     ends-redo : (s : State) → length (s .base) ≡ poolSize sh → CrashSafe sh es (λ n s. Unit {0}) (λ s. word (s .base) (logAt sh l) ≡ 0) (redo sh es) s
-    unfolding redo
     ends-redo s e =
-        let words : List Step = map store es ++ barrier ∷ (map parity es ++ barrier ∷ []) in
-        let split : words ++ (map store (seals sh 0) ++ barrier ∷ []) ≡ redo sh es = simp append-assoc in
-        subst (λ (xs : List Step). CrashSafe sh es (λ n s. Unit {0}) (λ s. word (s .base) (logAt sh l) ≡ 0) xs s) split (ends-cleared words s e)
+        subst (λ (xs : List Step). CrashSafe sh es (λ n s. Unit {0}) (λ s. word (s .base) (logAt sh l) ≡ 0) xs s) (sym (words-redo sh es))
+        (ends-cleared (words sh es) s e)
 
 module _ (sh : Shape) (es : List Store) (p₀ : List ℕ) (l : Log) (b : Bool) where
   -- a pool that a cut may leave, but for log l: there is one that differs from it in log l alone, has no seal there, and is all new, all old or
@@ -153,10 +151,7 @@ module _ (sh : Shape) (es : List Store) (p₀ : List ℕ) (l : Log) (b : Bool) w
 
     -- the second is clean: then the first has no seal in the other log, and is clean if it has none in log l
     clean-other : (p q : List ℕ) → SameOff sh l p q → CleanAt sh es p₀ q b → word p (logAt sh (other l)) ≡ 0
-    clean-other p q h k = word-other p q h ∙ go (other l) where
-      go : (x : Log) → word q (logAt sh x) ≡ 0
-      go fromA = k .every (logA sh) (even-log sh fromA g) (in-log sh fromA g) .sa refl
-      go fromB = k .every (logB sh) (even-log sh fromB g) (in-log sh fromB g) .sb refl
+    clean-other p q h k = word-other p q h ∙ clean-seal sh es p₀ g q b k (other l)
 
     clean-same : (p q : List ℕ) → SameOff sh l p q → Bytes p → CleanAt sh es p₀ q b → word p (logAt sh l) ≡ 0 → CleanAt sh es p₀ p b
     clean-same p q h y k z = record {
@@ -277,10 +272,6 @@ module _ (sh : Shape) (es : List Store) (p₀ : List ℕ) (l : Log) (b : Bool) w
     -- ---- the replay of the other log
 
     -- the log replayed is outside log l, so both hold the same there
-    view-same : (s s′ : State) → Alike sh l s s′ → SameOff sh l (view s) (view s′)
-    view-same s s′ a =
-        subst (λ (d : List Store). SameOff sh l (view s) (lay (s′ .base) d)) (a .pend) (alike-cut sh l g s s′ a (s .pend) (Sublistᴰ·refl (s .pend)) .0)
-
     beside-log : b ≡ true → (n : ℕ) (s s′ : State) → Beside s s′ → CutLog sh es p₀ (logAt sh (other l)) n s′ → ScribbledCut (replay (other l) (length es)) n s
     beside-log y n s s′ (a, v, r) (i, hold, seal) = (
       beside-cut s s′ (a, v, r) (λ kept t. subst (AfterCut sh es p₀ (lay (s′ .base) kept)) (ap (λ (x : Bool). x || anySeal sh es kept) r ∙ sym y) (i kept t)),
@@ -295,7 +286,7 @@ module _ (sh : Shape) (es : List Store) (p₀ : List ℕ) (l : Log) (b : Bool) w
         at = logAt sh (other l) + logHead
 
         same : SameOff sh l (view s) (view s′)
-        same = view-same s s′ a
+        same = views sh l g s s′ a
 
         away : (i : ℕ) → i < entrySize * length es → Off sh l (at + i)
         away i k = subst (Off sh l) (omega arith) (off-other sh l g (logHead + i) (let m = c y .few in omega arith))

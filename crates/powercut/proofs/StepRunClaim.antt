@@ -9,7 +9,7 @@ use native.Mathlib.Nat.{zero-lt-suc, not-suc-le-zero, le-refl}
 use native.Mathlib.Omega.{arith}
 use lib.ListN.{length, getD}
 use Rattle.rules.specs.Words.{Bytes, word}
-use Rattle.rules.specs.Shape.{Shape, logA, logB, parityAt, poolSize, zonesAt}
+use Rattle.rules.specs.Shape.{Shape, parityAt, poolSize, zonesAt}
 use Rattle.rules.specs.Staging.{Store, lay}
 use Rattle.rules.proofs.Shape.{Good, InData, fits, row-in}
 use Rattle.rules.proofs.Stores.{Covered, bytes-lay}
@@ -19,8 +19,8 @@ use Rattle.powercut.specs.Power.{State, keep, view}
 use Rattle.powercut.specs.Claim.{SameData, stagedOrOld}
 use Rattle.powercut.proofs.StepRun.{Claim, StepRun, Ended, Entries, Clean, Position, again, atCommit, atCut, atRecovery, begin, cut, cut-again, recover, step}
 use Rattle.powercut.proofs.FinalPool.{ParityW, Setting, final-first, final-parity, finalPool, par-cong, pars-row, targets-all, targets-distinct}
-use Rattle.powercut.proofs.Logs.{even-at, even-log, in-log, remedy-nothing}
-use Rattle.powercut.proofs.Redo.{Outside, CleanAt, new, pars}
+use Rattle.powercut.proofs.Logs.{even-at, remedy-nothing}
+use Rattle.powercut.proofs.Redo.{Outside, CleanAt, clean-seal, new, pars}
 use Rattle.powercut.proofs.StepRunInvariant.{Inv, commit-done, cut-sealed, log-kept, not-refused, recovery-done, run-inv, steps-redo}
 use Rattle.powercut.proofs.ByteParity.{byte-at, parity-bytes, parity-words, row-byte}
 
@@ -61,8 +61,8 @@ module _ (sh : Shape) (g : Good sh) (es : List Store) (p₀ : List ℕ) (o : Cle
     clean-of = record {
       length-is = q .length-is;
       bytes = q .bytes;
-      sealA = q .every (logA sh) (even-log sh fromA g) (in-log sh fromA g) .sa refl;
-      sealB = q .every (logB sh) (even-log sh fromB g) (in-log sh fromB g) .sb refl;
+      sealA = clean-seal sh es p₀ g p r q fromA;
+      sealB = clean-seal sh es p₀ g p r q fromB;
       right = parity-bytes sh g p (q .bytes) clean-right;
     }
 

@@ -19,7 +19,7 @@ use Rattle.powercut.proofs.StepRun.{StepRun, Position, again, atCommit,
 use Rattle.powercut.proofs.FinalPool.{Setting}
 use Rattle.powercut.proofs.Logs.{log-reads, remedy-A, remedy-B, remedy-nothing, seal-count, valid-sealed}
 use Rattle.powercut.proofs.CrashSafe.{CrashSafe, safe-end, safe-now, safe-step}
-use Rattle.powercut.proofs.Redo.{Cut, CutLog, Done, AfterCut, CleanAt, Source, even-A, even-B, in-A, in-B, logs, redo-crash-safe}
+use Rattle.powercut.proofs.Redo.{Cut, CutLog, Done, AfterCut, CleanAt, Source, clean-seal, even-A, even-B, in-A, in-B, logs, redo-crash-safe}
 use Rattle.powercut.proofs.CommitCrashSafe.{commit-crash-safe}
 use Rattle.powercut.proofs.StepCount.{redo-count}
 
@@ -55,7 +55,8 @@ module _ (sh : Shape) (es : List Store) (p₀ : List ℕ) (c : Setting sh es p�
   -- what a recovery finds
   nothing-found : (s : State) → s .pend ≡ [] → CleanAt sh es p₀ (s .base) (s .reached) → remedy sh (view s) ≡ nothing
   nothing-found s e h =
-      ap (remedy sh) (view-is s e) ∙ remedy-nothing sh (s .base) (h .every (logA sh) (even-A sh es p₀ c) (in-A sh es p₀ c) .sa refl) (h .every (logB sh) (even-B sh es p₀ c) (in-B sh es p₀ c) .sb refl)
+      let z = clean-seal sh es p₀ (c .good) (s .base) (s .reached) h in
+      ap (remedy sh) (view-is s e) ∙ remedy-nothing sh (s .base) (z fromA) (z fromB)
 
   found : (s : State) → Inv sh es p₀ atCut s → (q : Remedy) × (remedy sh (view s) ≡ q) × Inv sh es p₀ (atRecovery q 0) s
   found s (e, h) = go h where

@@ -59,6 +59,16 @@ headers-untouched p q o u =
     let k = u .length-is in
     same-headers q p (u .length-is) (omega arith) (λ i h. u .before i (omega arith))
 
+-- ---- a fact of each step of a list
+
+abbrev pub Each : (Step → Type 0) → List Step → Type 0
+Each Q [] = Unit {0}
+Each Q (x ∷ xs) = Q x × Each Q xs
+
+pub each-append : (Q : Step → Type 0) (xs ys : List Step) → Each Q xs → Each Q ys → Each Q (xs ++ ys)
+each-append Q [] ys h k = k
+each-append Q (x ∷ xs) ys h k = (h .0, each-append Q xs ys (h .1) k)
+
 -- ---- where a step stores
 
 module _ (sh : Shape) where
@@ -81,17 +91,12 @@ module _ (sh : Shape) where
 
   -- each step of a list does so
   abbrev AllFrom : ℕ → List Step → Type 0
-  AllFrom m [] = Unit {0}
-  AllFrom m (x ∷ xs) = From m x × AllFrom m xs
+  AllFrom m = Each (From m)
 
   from-at : (m : ℕ) (xs : List Step) → AllFrom m xs → (k : ℕ) → From m (getD xs k barrier)
   from-at m [] h k = tt
   from-at m (x ∷ xs) h zero = h .0
   from-at m (x ∷ xs) h (suc k) = from-at m xs (h .1) k
-
-  from-append : (m : ℕ) (xs ys : List Step) → AllFrom m xs → AllFrom m ys → AllFrom m (xs ++ ys)
-  from-append m [] ys h k = k
-  from-append m (x ∷ xs) ys h k = (h .0, from-append m xs ys (h .1) k)
 
   all-less : (m n : ℕ) (xs : List Step) → m ≤ n → AllFrom n xs → AllFrom m xs
   all-less m n [] l h = tt
@@ -108,6 +113,19 @@ module _ (sh : Shape) where
   log-from i [] = tt
   log-from i (e ∷ l) = (omega arith, (omega arith, (omega arith, (omega arith, log-from (suc i) l))))
 
+  -- parts 3 and 4, with the barrier after each; then part 5
+  module _ (es : List Store) where
+    pub words : List Step
+    words = map store es ++ barrier ∷ (map parity es ++ barrier ∷ [])
+
+    words-length : length words ≡ 2 * length es + 2
+    unfolding words
+    words-length = simp (length-append, length-map) (omega arith)
+
+    pub words-redo : redo sh es ≡ words ++ (map store (seals sh 0) ++ barrier ∷ [])
+    unfolding redo words
+    words-redo = simp append-assoc
+
   -- ---- the lists' steps, of good targets
 
   module _ (g : Good sh) (es : List Store) (t : goodTargets sh es ≡ true) where
@@ -118,29 +136,17 @@ module _ (sh : Shape) where
     parity-from [] = tt
     parity-from (e ∷ l) = (unfold rowAt in cell-low sh g (zone sh (e .at)) (sh .rows) (off sh (e .at)), parity-from l)
 
-    -- data and parity, with the barrier after each
-    words : List Step
-    words = map store es ++ barrier ∷ (map parity es ++ barrier ∷ [])
-
-    words-from : AllFrom (zonesAt sh) words
+    words-from : AllFrom (zonesAt sh) (words es)
     unfolding words
-    words-from = from-append _ (map store es) _ (from-stores _ es targets-from) (tt, from-append _ (map parity es) _ (parity-from es) (tt, tt))
-
-    words-length : length words ≡ 2 * length es + 2
-    unfolding words
-    words-length = simp (length-append, length-map) (omega arith)
-
-    words-redo : redo sh es ≡ words ++ (map store (seals sh 0) ++ barrier ∷ [])
-    unfolding redo words
-    words-redo = simp append-assoc
+    words-from = each-append _ (map store es) _ (from-stores _ es targets-from) (tt, each-append _ (map parity es) _ (parity-from es) (tt, tt))
 
     pub redo-in-zones : (k : ℕ) → k < 2 * length es + 2 → From (zonesAt sh) (getD (redo sh es) k barrier)
     redo-in-zones k l =
-        let e = words-length in
-        subst (From (zonesAt sh)) (sym (ap (λ (xs : List Step). getD xs k barrier) words-redo ∙ List·getD-append words _ barrier k (omega arith))) (from-at (zonesAt sh) words words-from k)
+        let e = words-length es in
+        subst (From (zonesAt sh)) (sym (ap (λ (xs : List Step). getD xs k barrier) (words-redo es) ∙ List·getD-append (words es) _ barrier k (omega arith))) (from-at (zonesAt sh) (words es) words-from k)
 
     redo-all : AllFrom (logA sh) (redo sh es)
-    redo-all = subst (AllFrom (logA sh)) (sym words-redo) (from-append _ words _ (all-less _ (zonesAt sh) words (omega arith) words-from) (seals-from 0))
+    redo-all = subst (AllFrom (logA sh)) (sym (words-redo es)) (each-append _ (words es) _ (all-less _ (zonesAt sh) (words es) (omega arith) words-from) (seals-from 0))
 
     pub redo-from : (k : ℕ) → From (logA sh) (getD (redo sh es) k barrier)
     redo-from k = from-at (logA sh) (redo sh es) redo-all k
@@ -150,7 +156,7 @@ module _ (sh : Shape) where
   commit-from g [] t k = tt
   commit-from g (e ∷ es) t k =
       let all : AllFrom (logA sh) (commitSteps sh (e ∷ es)) =
-      from-append (logA sh) (map store (logStores sh 0 (e ∷ es))) _ (from-stores (logA sh) (logStores sh 0 (e ∷ es)) (log-from 0 (e ∷ es)))
+      each-append _ (map store (logStores sh 0 (e ∷ es))) _ (from-stores (logA sh) (logStores sh 0 (e ∷ es)) (log-from 0 (e ∷ es)))
       (tt, (omega arith, (omega arith, (tt, redo-all g (e ∷ es) t)))) in
       from-at (logA sh) (commitSteps sh (e ∷ es)) all k
 

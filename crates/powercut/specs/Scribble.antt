@@ -22,6 +22,7 @@ use Rattle.powercut.specs.Recovery.{Recovery, finished, recovering, reco
 use Rattle.powercut.specs.WholeRun.{Accepted, Holds, Makes, Run, cutOff, entries, holding, meets, resuming}
 use Rattle.powercut.specs.Claim.{End, EndsIn, StepTaken, n}
 
+-- Each log's other one.
 unfoldable pub other : Log → Log
 other fromA = fromB
 other fromB = fromA

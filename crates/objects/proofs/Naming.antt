@@ -6,7 +6,7 @@ use mathlib.Core.Option.{Option, some}
 use mathlib.Core.List.{List, _++_}
 use native.Mathlib.Omega.{arith}
 use lib.ListN.{length, take, drop, length-drop, take-append-drop}
-use lib.Seq.{drop-append-le, drop-drop}
+use lib.Seq.{drop-append-le, drop-drop, length-take-le}
 use Rattle.rules.specs.Test.{first}
 use Rattle.rules.specs.Runs.{Run, cellsFor, free, goodIn, headCells, headLength, headTag, isFree, object, objectOk}
 use Rattle.rules.specs.Search.{runAt}
@@ -90,6 +90,10 @@ body-inside h a {m} {k} o e l =
     let s = object-says h o in
     let q : headCells h ≡ cellsFor m = s .len ∙ ap cellsFor (sym e) in
     omega (arith, cells-hold m)
+
+pub body-length : (v h : List ℕ) (a : ℕ) {m : ℕ} → objectOk h ≡ true → m ≡ headLength h → a + 64 * headCells h ≤ length v → length (part m (a + 16) v) ≡ m
+unfolding part
+body-length v h a {m} o e l = length-take-le m _ (rw length-drop (omega (arith, body-inside h a o e l)))
 
 module _ (v : List ℕ) (a : ℕ) (h : List ℕ) {x : Bool} (e : x ≡ goodIn h (drop (a + 16) v)) where
   pub object-good : x ≡ true → objectOk h ≡ true → {n m t : ℕ} → n ≡ headCells h → m ≡ headLength h → t ≡ headTag h → a + 64 * headCells h ≤ length v

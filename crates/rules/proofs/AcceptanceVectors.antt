@@ -33,11 +33,11 @@ use Rattle.rules.specs.Scrub.{allTo, brokenZones, columnRight, concludeS
 use Rattle.rules.specs.Format.{formatTests, freshPool, freshZone, freshZones}
 use Rattle.rules.specs.Sound.{bookOf}
 use Rattle.rules.specs.Tag.{absent, at, concludeLookUp, firstFrom, firstTagged, found as lookedUp, lookUp, lookUpTests, refused as lookUpRefused, wholeTest, withTag}
-use Rattle.rules.specs.Scan.{brokenLine, columnsLine, concludeScan, decimal, decimalTo, poolLine, poolText, poolscan, quality, runLine, runText, scanTests, zoneLines, zonesText}
+use Rattle.rules.specs.Scan.{bodyTotal, broken, brokenLine, columnsLine, concludeScan, decimal, decimalTo, freeTotal, lineText, linesFrom, linesOf, linesText, objectLines, poolLine, poolText, poolscan, quality, run, runLine, runText, runsIn, scanLines, scanTests, sumRuns, totalLine, totalText, zoneLines, zonesText}
 
 -- Each definition of the rules that computes, opened at once.
 opened : Unit {0}
-unfolding number digits field word put reduced low high check updated poolSize zoneCells zoneAt byteAt zone row off rowAt first same within inRange headerFront headerBytes pageAt headerShape headerId headerOk validHeader shapeIn idIn differing openTests cellsFor freeOk objectOk allZero goodIn runOf readRun fits checkRun nextRun onward walk zoneWalk headBytes freeHead objectBytes checkWord book enter strike overwrite find fit runAt joined zoneData walkIn runsFrom bookFrom poolBook allGood goodFrom runThere isObject isDamaged bodyOf headAt objectTests unsealed readTests touch touchWords wordFrom wordCount touchRange isLive commitLength pastCommit impossible conclude concludePool fitIn search fitTest fitAddress touchFree touchObject touchWrite joinedAt touchJoined plan entriesIn concludeStart transactionStart recordTests liveTests callTests staged call calls begun onAddress onTaken newBook newBooks xorTo parityWord tabFrom repaired anyAbove anyTwo repairTests differences concludeRepair repair mended countRuns countTo allTo sumTo columnRight wrongColumns brokenZones objectsMet damagedMet freshZone freshZones freshPool formatTests decimalTo decimal quality runText runLine brokenLine zoneLines zonesText poolLine columnsLine poolText scanTests concludeScan poolscan lookTests concludeLook look seen mendHeader concludeScrub scrub bookOf withTag firstFrom firstTagged wholeTest lookUpTests lookedUp concludeLookUp lookUp ones onesIn
+unfolding number digits field word put reduced low high check updated poolSize zoneCells zoneAt byteAt zone row off rowAt first same within inRange headerFront headerBytes pageAt headerShape headerId headerOk validHeader shapeIn idIn differing openTests cellsFor freeOk objectOk allZero goodIn runOf readRun fits checkRun nextRun onward walk zoneWalk headBytes freeHead objectBytes checkWord book enter strike overwrite find fit runAt joined zoneData walkIn runsFrom bookFrom poolBook allGood goodFrom runThere isObject isDamaged bodyOf headAt objectTests unsealed readTests touch touchWords wordFrom wordCount touchRange isLive commitLength pastCommit impossible conclude concludePool fitIn search fitTest fitAddress touchFree touchObject touchWrite joinedAt touchJoined plan entriesIn concludeStart transactionStart recordTests liveTests callTests staged call calls begun onAddress onTaken newBook newBooks xorTo parityWord tabFrom repaired anyAbove anyTwo repairTests differences concludeRepair repair mended countRuns countTo allTo sumTo columnRight wrongColumns brokenZones objectsMet damagedMet freshZone freshZones freshPool formatTests decimalTo decimal quality runText runLine brokenLine lineText linesText linesOf linesFrom scanLines zoneLines zonesText runsIn sumRuns objectLines bodyTotal freeTotal totalText totalLine poolLine columnsLine poolText scanTests concludeScan poolscan lookTests concludeLook look seen mendHeader concludeScrub scrub bookOf withTag firstFrom firstTagged wholeTest lookUpTests lookedUp concludeLookUp lookUp ones onesIn
 opened = tt
 
 abbrev shape : ℕ → ℕ → ℕ → ℕ → Shape
@@ -833,7 +833,7 @@ zoneLines-broken = refl
 
 -- R 1, C 1, Z 1 at a page of 64 bytes: the object, and the parity row, here equal to the data row.
 pub poolText-is :
-    poolText (shape 64 1 1 1) (replicate 1152 0 ++ (objectA ++ objectA)) ≡ ascii "(pool 1 1 1)\n(run 0 0 (object 5 1 good))\n(columns (off 0))\n"
+    poolText (shape 64 1 1 1) (replicate 1152 0 ++ (objectA ++ objectA)) ≡ ascii "(pool 1 1 1)\n(run 0 0 (object 5 1 good))\n(columns (off 0))\n(total (objects 1) (bytes 1) (free 0))\n"
 unfolding opened
 poolText-is = refl
 
@@ -847,6 +847,27 @@ pub zonesText-broken :
     zonesText two brokenPool 0 2 ≡ ascii "(run 0 0 (object 5 1 good))\n(run 0 1 (object 5 1 bad))\n(broken 0 2)\n(run 1 0 (free 4))\n"
 unfolding opened
 zonesText-broken = refl
+
+-- The totals of an object line, a broken line and a free line; and of no lines.
+pub totalLine-is :
+    (totalLine (run 0 0 runB ∷ broken 0 2 ∷ run 1 0 (free 15) ∷ []) ≡ ascii "(total (objects 1) (bytes 49) (free 15))\n")
+    × (totalLine [] ≡ ascii "(total (objects 0) (bytes 0) (free 0))\n")
+unfolding opened
+totalLine-is = (refl, refl)
+
+-- The damaged object counts.
+pub totalLine-broken : totalLine (scanLines two brokenPool) ≡ ascii "(total (objects 2) (bytes 2) (free 4))\n"
+unfolding opened
+totalLine-broken = refl
+
+-- R 1, C 5, Z 1: a free run and an object, then a break, which hides a free run.
+abbrev brokenRow : List ℕ
+brokenRow = freeRun 2 ++ (objectA ++ (replicate 64 0 ++ freeRun 1))
+
+pub poolText-broken :
+    poolText (shape 64 1 5 1) (replicate 1152 0 ++ (brokenRow ++ brokenRow)) ≡ ascii "(pool 1 5 1)\n(run 0 0 (free 2))\n(run 0 2 (object 5 1 good))\n(broken 0 3)\n(columns (off 0))\n(total (objects 1) (bytes 1) (free 2))\n"
+unfolding opened
+poolText-broken = refl
 
 -- A refusal prints only its number; more than 65,536 bytes give 2 at once.
 pub poolscan-refused :

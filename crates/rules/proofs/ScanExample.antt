@@ -1,9 +1,10 @@
--- poolscan's own example of 01 (`scan-example`): the pool with the tag 5 object gives exactly the four lines. The parity of its 512 columns
+-- poolscan's own example of 01 (`scan-example`): the pool with the tag 5 object gives exactly the five lines. The parity of its 512 columns
 -- of bytes is proved for any first row, and not computed. Assumes nothing.
 use Prim.Native.Nat.{ℕ, zero, suc, _+_, _<_}
 use mathlib.Core.Path.{_≡_, refl, ap, ap₂, _∙_}
 use mathlib.Core.Option.{none}
-use mathlib.Core.List.{List, _++_}
+use mathlib.Core.Bool.{true}
+use mathlib.Core.List.{List, [], _∷_, _++_}
 use native.Mathlib.Omega.{arith}
 use lib.Bits.{bitXor, xor-self, xor-zero-l, xor-zero-r}
 use lib.ListN.{length, getD, replicate, List·getD-append, length-replicate}
@@ -13,12 +14,12 @@ use Rattle.rules.specs.Check.{check, high, low, reduced}
 use Rattle.rules.specs.Shape.{byteAt, poolSize, zoneAt, zoneCells}
 use Rattle.rules.specs.Test.{first}
 use Rattle.rules.specs.Header.{differing, headerBytes, headerFront, headerId, headerOk, headerShape, inRange, openTests, pageAt, same, shapeIn, validHeader, within}
-use Rattle.rules.specs.Runs.{cellsFor, checkRun, fits, freeHead, freeOk, goodIn, headBytes, nextRun, objectBytes, objectOk, onward, readRun, runOf, walk, zoneWalk}
+use Rattle.rules.specs.Runs.{cellsFor, checkRun, fits, free, freeHead, freeOk, goodIn, headBytes, nextRun, object, objectBytes, objectOk, onward, readRun, runOf, walk, zoneWalk}
 use Rattle.rules.specs.Zones.{walkIn, zoneData}
 use Rattle.rules.specs.Seals.{readTests, unsealed}
 use Rattle.rules.specs.Parity.{Parity, xorTo}
 use Rattle.rules.specs.Scrub.{wrongColumns}
-use Rattle.rules.specs.Scan.{columnsLine, concludeScan, decimal, decimalTo, poolLine, poolText, poolscan, quality, runLine, runText, scanTests, zoneLines, zonesText}
+use Rattle.rules.specs.Scan.{bodyTotal, columnsLine, concludeScan, decimal, decimalTo, freeTotal, lineText, linesFrom, linesOf, linesText, objectLines, poolLine, poolText, poolscan, quality, run, runLine, runText, runsIn, scanLines, scanTests, sumRuns, totalLine, totalText}
 use Rattle.rules.proofs.Header.{range-good}
 use Rattle.rules.proofs.Scrub.{parity-scrub}
 use Rattle.rules.proofs.Examples.{bench, firstRow, front, objectPool}
@@ -70,10 +71,10 @@ shape-is : shapeIn objectPool ≡ bench
 unfolding objectPool front firstRow same within inRange headerFront headerBytes pageAt headerShape headerId headerOk validHeader shapeIn number digits field check low high reduced
 shape-is = refl
 
-zone-is : zonesText bench objectPool 0 1 ≡ ascii "(run 0 0 (object 5 1 good))\n(run 0 1 (free 15))\n"
-unfolding objectPool front firstRow zonesText zoneLines runLine runText quality decimal decimalTo walkIn zoneData zoneAt zoneCells zoneWalk walk onward nextRun checkRun fits readRun runOf freeOk objectOk allZero goodIn number digits field check low high reduced headerFront headerBytes headBytes freeHead objectBytes cellsFor
-zone-is = refl
+lines-are : scanLines bench objectPool ≡ run 0 0 (object 1 5 (ascii "a") true) ∷ run 0 1 (free 15) ∷ []
+unfolding objectPool front firstRow scanLines linesFrom linesOf walkIn zoneData zoneAt zoneCells zoneWalk walk onward nextRun checkRun fits readRun runOf freeOk objectOk allZero goodIn number digits field check low high reduced headerFront headerBytes headBytes freeHead objectBytes cellsFor
+lines-are = refl
 
-pub scan-example : poolscan objectPool ≡ ascii "(pool 2 2 1)\n(run 0 0 (object 5 1 good))\n(run 0 1 (free 15))\n(columns (off 0))\n"
-unfolding poolscan concludeScan poolText poolLine columnsLine decimal decimalTo
-scan-example = rw (opens, shape-is, zone-is, columns)
+pub scan-example : poolscan objectPool ≡ ascii "(pool 2 2 1)\n(run 0 0 (object 5 1 good))\n(run 0 1 (free 15))\n(columns (off 0))\n(total (objects 1) (bytes 1) (free 15))\n"
+unfolding poolscan concludeScan poolText poolLine linesText lineText runLine runText quality columnsLine totalText totalLine objectLines bodyTotal freeTotal runsIn sumRuns decimal decimalTo
+scan-example = rw (opens, shape-is, lines-are, columns)

@@ -21,7 +21,7 @@ use Rattle.rules.specs.Parity.{Parity, columnByte}
 use Rattle.rules.specs.Sound.{Sound, bookOf}
 use Rattle.rules.specs.Scrub.{allTo, brokenZones, columnRight, concludeScrub, countRuns, countTo, counts, damagedMet, objectsMet, scrub, sumTo, wrongColumns}
 use Rattle.rules.proofs.Bool.{and-join, and-split}
-use Rattle.rules.proofs.Sums.{zero-sum}
+use Rattle.rules.proofs.Sums.{count-sum, sum-append, zero-sum}
 use Rattle.rules.proofs.Test.{not-not, passed-first}
 use Rattle.rules.proofs.Shape.{Good}
 use Rattle.rules.proofs.Header.{sound-good}
@@ -52,7 +52,7 @@ sum-zero (suc n) f e i h = go (λ l. sum-zero n f (omega arith) i l) (last n i h
     go ih (inl l) = ih l
     go ih (inr q) = ap f q ∙ omega arith
 
-count-zero : (n : ℕ) (f : ℕ → Bool) → countTo n f ≡ 0 → (i : ℕ) → i < n → f i ≡ false
+pub count-zero : (n : ℕ) (f : ℕ → Bool) → countTo n f ≡ 0 → (i : ℕ) → i < n → f i ≡ false
 unfolding countTo
 count-zero zero f e i h = absurd (not-suc-le-zero h)
 count-zero (suc n) f e i h = go (λ l. count-zero n f (omega arith) i l) (last n i h)
@@ -106,10 +106,8 @@ module _ (sh : Shape) (p : List ℕ) (g : Good sh) where
 
 -- ---- zones
 
-pub count-append : (f : Run → Bool) (a b : List Run) → countRuns f (a ++ b) ≡ countRuns f a + countRuns f b
-unfolding countRuns
-count-append f [] b = omega arith
-count-append f (r ∷ a) b = rw (count-append f a b) (omega arith)
+count-append : (f : Run → Bool) (a b : List Run) → countRuns f (a ++ b) ≡ countRuns f a + countRuns f b
+count-append f a b = count-sum f (a ++ b) ∙ sum-append _ a b ∙ sym (ap₂ _+_ (count-sum f a) (count-sum f b))
 
 module _ (sh : Shape) (p : List ℕ) where
   good-count : (rs : List Run) → countRuns (λ r. not (isGood r)) rs ≡ 0 → allGood rs ≡ true
@@ -157,7 +155,7 @@ module _ (sh : Shape) (p : List ℕ) where
   book-count c (free n ∷ rs) = let i = book-count (c + n) rs in omega arith
   book-count c (object n t b g ∷ rs) = let i = book-count (c + n) rs in omega arith
 
-  books-count : (n z : ℕ) → countRuns (λ r. not (isFree r)) (runsFrom sh p z n) ≡ length (bookFrom sh p z n)
+  pub books-count : (n z : ℕ) → countRuns (λ r. not (isFree r)) (runsFrom sh p z n) ≡ length (bookFrom sh p z n)
   unfolding countRuns runsFrom bookFrom
   books-count zero z = refl
   books-count (suc n) z =

@@ -1,10 +1,14 @@
--- Laws of `sumTo`, a sum over the numbers below another. Assumes nothing.
+-- Laws of sums: `sumTo`, over the numbers below another; `sumRuns`, over runs. Assumes nothing.
 use Prim.Native.Nat.{ℕ, zero, suc, _+_, _*_, _≤_, _<_}
 use mathlib.Core.Path.{_≡_, refl, sym, ap₂}
+use mathlib.Core.Bool.{Bool, cond}
+use mathlib.Core.List.{List, [], _∷_, _++_}
 use native.Mathlib.Nat.{add-suc, add-zero, suc-mul, zero-mul}
 use native.Mathlib.Decide.{decLt}
 use native.Mathlib.Omega.{arith}
-use Rattle.rules.specs.Scrub.{sumTo}
+use Rattle.rules.specs.Runs.{Run}
+use Rattle.rules.specs.Scrub.{countRuns, sumTo}
+use Rattle.rules.specs.Scan.{sumRuns}
 
 pub zero-sum : (n : ℕ) (f : ℕ → ℕ) → ((i : ℕ) → i < n → f i ≡ 0) → sumTo n f ≡ 0
 unfolding sumTo
@@ -15,6 +19,11 @@ pub sum-le : (n b : ℕ) (f : ℕ → ℕ) → ((i : ℕ) → f i ≤ b) → sum
 unfolding sumTo
 sum-le zero b f h = omega arith
 sum-le (suc n) b f h = omega (arith, sum-le n b f h, h n)
+
+pub sum-same : (n k : ℕ) (f : ℕ → ℕ) → ((i : ℕ) → i < n → f i ≡ k) → sumTo n f ≡ n * k
+unfolding sumTo
+sum-same zero k f h = sym (zero-mul k)
+sum-same (suc n) k f h = let i = sum-same n k f (λ i l. h i (omega arith)) in omega (arith, i, h n (omega arith), suc-mul n k)
 
 -- at most one is not 0
 pub sum-one : (n b : ℕ) (f : ℕ → ℕ) → ((i : ℕ) → f i ≤ b) → ((i j : ℕ) → 0 < f i → 0 < f j → i ≡ j) → sumTo n f ≤ b
@@ -54,3 +63,16 @@ pub sum-swap : (m n : ℕ) (f : ℕ → ℕ → ℕ) → sumTo m (λ i. sumTo n 
 unfolding sumTo
 sum-swap zero n f = sym (zero-sum n (λ j. 0) (λ i l. refl))
 sum-swap (suc m) n f = rw (sum-swap m n f) (sym (sum-plus n (λ j. sumTo m (λ i. f i j)) (f m)))
+
+-- ---- over runs
+
+pub sum-append : (f : Run → ℕ) (a b : List Run) → sumRuns f (a ++ b) ≡ sumRuns f a + sumRuns f b
+unfolding sumRuns
+sum-append f [] b = omega arith
+sum-append f (r ∷ a) b = rw (sum-append f a b) (omega arith)
+
+-- a count is a sum of ones
+pub count-sum : (f : Run → Bool) (rs : List Run) → countRuns f rs ≡ sumRuns (λ r. cond (f r) 1 0) rs
+unfolding countRuns sumRuns
+count-sum f [] = refl
+count-sum f (r ∷ rs) = rw (count-sum f rs)

@@ -7,7 +7,7 @@ use lib.ListN.{length}
 use Rattle.rules.specs.Words.{ascii}
 use Rattle.rules.specs.Shape.{Shape}
 use Rattle.rules.specs.Runs.{free, object}
-use Rattle.rules.specs.Scan.{brokenLine, columnsLine, poolLine, runLine, runText}
+use Rattle.rules.specs.Scan.{brokenLine, columnsLine, poolLine, runLine, runText, totalText}
 use Rattle.texts.specs.Put.{betweenText, pairText}
 use Rattle.scan.specs.Lined.{objectLine}
 
@@ -30,3 +30,7 @@ pool-line sh = simp append-assoc
 pub columns-line : (n : ℕ) → betweenText (ascii "(columns (off ") n (ascii "))\n") ≡ columnsLine n
 unfolding betweenText columnsLine
 columns-line n = refl
+
+pub total-line : (n b f : ℕ) → betweenText (ascii "(total (objects ") n (ascii ")") ++ (betweenText (ascii " (bytes ") b (ascii ")") ++ betweenText (ascii " (free ") f (ascii "))\n")) ≡ totalText n b f
+unfolding betweenText totalText
+total-line n b f = simp append-assoc

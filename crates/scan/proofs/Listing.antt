@@ -5,8 +5,7 @@ use mathlib.Core.Bool.{Bool, true, false}
 use mathlib.Core.List.{List, [], _++_, append-assoc, append-nil}
 use native.Mathlib.Nat.{add-zero}
 use native.Mathlib.Omega.{arith}
-use lib.ListN.{length, drop, length-drop}
-use lib.Seq.{length-take-le}
+use lib.ListN.{drop}
 use Rattle.rules.specs.Runs.{Run, Walk, cells, free, goodIn, headCells, headLength, headTag, isFree, object}
 use Rattle.rules.specs.Scan.{brokenLine, runLine, zoneLines}
 use Rattle.stage.specs.View.{part, seen}
@@ -15,9 +14,9 @@ use Rattle.runs.specs.Rest.{Meets, Passed, Zoned}
 use Rattle.runs.proofs.Rest.{walk-broken}
 use Rattle.runs.proofs.Walking.{Walking, walking-end, walking-start, walking-step, walking-stop}
 use Rattle.objects.specs.Named.{objectRun}
-use Rattle.objects.proofs.Naming.{passed-object}
+use Rattle.objects.proofs.Naming.{body-length, passed-object}
 use Rattle.scrub.specs.Counted.{ObjectThere}
-use Rattle.scrub.proofs.Counting.{body-room}
+use Rattle.scrub.proofs.Counting.{head-there}
 use Rattle.texts.specs.Put.{Put}
 use Rattle.texts.proofs.Put.{put-as, put-then}
 use Rattle.scan.specs.Lined.{Lined, objectLine, zoneText}
@@ -27,10 +26,10 @@ use Rattle.scan.proofs.Lines.{object-line}
 
 pub judged-line : (p st : List ℕ) (a : ℕ) {h : List ℕ} {m : ℕ} → ObjectThere p a → h ≡ part 16 a (seen p st 0) → m ≡ headLength h → (z c : ℕ) {t : ℕ} {x : Bool}
     → x ≡ goodIn h (drop (a + 16) (seen p st 0)) → t ≡ headTag h → objectLine z c t m x ≡ runLine z c (objectRun p a (part 16 a p))
-unfolding objectRun part
+unfolding objectRun
 judged-line p st a {h} {m} o e k z c {t} {x} q i =
-    let l : length (part m (a + 16) p) ≡ m = length-take-le m _ (rw length-drop (omega (arith, body-room p st a o e k))) in
-    ap (λ (n : ℕ). objectLine z c t n x) (sym l) ∙ object-line z c (headCells h) t (part m (a + 16) p) x ∙ rw (q, i, k, e, seen-none p st)
+    let there = head-there p st a o e in
+    ap (λ (n : ℕ). objectLine z c t n x) (sym (body-length p h a (there .1) k (there .0))) ∙ object-line z c (headCells h) t (part m (a + 16) p) x ∙ rw (q, i, k, e, seen-none p st)
 
 -- ---- the line of a run that was met
 

@@ -9,21 +9,25 @@ use lib.ListN.{length}
 use lib.Seq.{sets}
 use borrow.Author.Tests.{le-ltb, lt-ltb}
 use Rattle.rules.specs.Words.{ascii}
+use Rattle.rules.specs.Shape.{Shape as PoolShape}
 use Rattle.rules.specs.Test.{first}
 use Rattle.rules.specs.Header.{shapeIn}
 use Rattle.rules.specs.Seals.{readTests}
 use Rattle.rules.specs.Scrub.{columnRight, countTo, wrongColumns}
-use Rattle.rules.specs.Scan.{concludeScan, poolText, poolscan, scanTests, zonesText}
+use Rattle.rules.specs.Scan.{concludeScan, poolText, poolscan, scanTests, totalLine, totalText, zonesText}
 use Rattle.rules.proofs.Bool.{split}
 use Rattle.rules.proofs.Sums.{sum-le}
+use Rattle.rules.proofs.Scan.{lines-text}
 use Rattle.layout.specs.declared.Shape.{Shape}
 use Rattle.layout.specs.declared.Opened.the-variants as Opening
 use Rattle.layout.specs.Meaning.{InRange, Shaped, answer, shapeOf}
 use Rattle.layout.proofs.Range.{bounds}
 use Rattle.layout.proofs.Opening.{answer-refused, open-good}
 use Rattle.log.proofs.Opening.{read-none, read-opened}
+use Rattle.totals.specs.Totalled.{LinesTotalled}
 use Rattle.texts.specs.Put.{Put, betweenText, pairText}
 use Rattle.texts.proofs.Put.{put-as, put-then}
+use Rattle.scan.specs.Lined.{countLines}
 use Rattle.scan.proofs.Lines.{columns-line, pool-line}
 
 -- ---- the ways out
@@ -71,9 +75,14 @@ columns-low s {p} g e = omega (arith, columns-few s (g .range) p)
 
 -- ---- the text of a pool, line by line
 
-pub pool-put : (s : Shape) (p : List ℕ) {l l₁ l₂ l₃ l₄ : List ℕ} {r₁ r₂ r₃ n r₄ : ℕ} → Put 27 l 0 (pairText (ascii "(pool ") (s .rows) (s .cols)) l₁ r₁
-    → Put 13 l₁ r₁ (betweenText (ascii " ") (s .zones) (ascii ")\n")) l₂ r₂ → Put 60928 l₂ r₂ (zonesText (shapeOf s) p 0 (s .zones)) l₃ r₃ → n ≡ wrongColumns (shapeOf s) p
-    → Put 27 l₃ r₃ (betweenText (ascii "(columns (off ") n (ascii "))\n")) l₄ r₄ → Put 65536 l 0 (poolText (shapeOf s) p) l₄ r₄
-unfolding poolText
-pool-put s p {n = n} size zone zones e columns =
-    put-as (put-then (put-then size zone) (put-then zones columns)) (rw (pool-line (shapeOf s), columns-line n, e)) (omega arith)
+pub counts-put : (s : PoolShape) (p : List ℕ) {n o b f : ℕ} {l : List ℕ} {a : ℕ} {l₁ : List ℕ} {r₁ : ℕ} {l₂ : List ℕ} {r₂ : ℕ} → n ≡ wrongColumns s p → LinesTotalled s p o b f
+    → Put 27 l a (betweenText (ascii "(columns (off ") n (ascii "))\n")) l₁ r₁ → Put 66 l₁ r₁ (totalText o b f) l₂ r₂ → Put 93 l a (countLines s p) l₂ r₂
+unfolding countLines totalLine
+counts-put s p {n} e t columns total = put-as (put-then columns total) (rw (columns-line n, e, t .objects, t .bytes, t .free)) (omega arith)
+
+pub pool-put : (s : Shape) (p : List ℕ) {l l₁ l₂ l₃ l₄ : List ℕ} {r₁ r₂ r₃ r₄ : ℕ} → Put 27 l 0 (pairText (ascii "(pool ") (s .rows) (s .cols)) l₁ r₁
+    → Put 13 l₁ r₁ (betweenText (ascii " ") (s .zones) (ascii ")\n")) l₂ r₂ → Put 60928 l₂ r₂ (zonesText (shapeOf s) p 0 (s .zones)) l₃ r₃
+    → Put 93 l₃ r₃ (countLines (shapeOf s) p) l₄ r₄ → Put 65536 l 0 (poolText (shapeOf s) p) l₄ r₄
+unfolding poolText countLines
+pool-put s p size zone zones counts =
+    put-as (put-then (put-then size zone) (put-then zones counts)) (rw (pool-line (shapeOf s), lines-text (shapeOf s) p)) (omega arith)

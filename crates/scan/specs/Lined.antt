@@ -4,7 +4,9 @@ use mathlib.Core.Path.{_≡_}
 use mathlib.Core.Bool.{Bool, false}
 use mathlib.Core.List.{List, [], _++_}
 use Rattle.rules.specs.Words.{ascii}
-use Rattle.rules.specs.Scan.{brokenLine, quality, runLine, zoneLines}
+use Rattle.rules.specs.Shape.{Shape}
+use Rattle.rules.specs.Scrub.{wrongColumns}
+use Rattle.rules.specs.Scan.{brokenLine, columnsLine, quality, runLine, scanLines, totalLine, zoneLines}
 use Rattle.runs.specs.Rest.{Passed, restOf, walkOf, walkOn}
 use Rattle.texts.specs.Put.{Put, pairText}
 
@@ -37,3 +39,7 @@ pub record Lined (v : List ℕ) (from n z c : ℕ) (after : Bool) (l : List ℕ)
 -- The lines of zone z, which has n cells from byte `from` of v on.
 unfoldable pub zoneText : List ℕ → ℕ → ℕ → ℕ → List ℕ
 zoneText v from n z = zoneLines z 0 (walkOf v from n .runs) (walkOf v from n .whole)
+
+-- The lines behind the zones.
+unfoldable pub countLines : Shape → List ℕ → List ℕ
+countLines s v = columnsLine (wrongColumns s v) ++ totalLine (scanLines s v)

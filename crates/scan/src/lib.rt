@@ -1,21 +1,23 @@
-// The text that poolscan prints (01, "Bench examples"), put into a buffer.
+// The text that poolscan prints (01, "Bench examples"; A.7), put into a buffer.
 ghost use mathlib.Core.Path.{_≡_};
 ghost use mathlib.Core.List.{[]};
 ghost use Prim.Native.Nat.{_+_, _*_, _%_, _<_, _≤_};
 ghost use lib.ListN.{length};
 ghost use lib.Seq.{sets};
 ghost use Rattle.rules.specs.Runs.{free};
-ghost use Rattle.rules.specs.Scan.{brokenLine, poolscan, poolText, runLine, zonesText};
+ghost use Rattle.rules.specs.Scan.{brokenLine, poolscan, poolText, runLine, totalText, zonesText};
 ghost use Rattle.stage.specs.View.{part, Staged};
 ghost use Rattle.layout.specs.Meaning.{Shaped, shapeOf};
 ghost use Rattle.runs.specs.Rest.{Zoned};
 ghost use Rattle.objects.specs.Named.{objectRun};
 ghost use Rattle.scrub.specs.Counted.{ObjectThere};
+ghost use Rattle.totals.specs.Totalled.{Small};
 ghost use Rattle.texts.specs.Put.{Put};
-ghost use Rattle.scan.specs.Lined.{Lined, objectLine, Room, zoneText};
+ghost use Rattle.scan.specs.Lined.{countLines, Lined, objectLine, Room, zoneText};
 use layout::Opened;
 use layout::Shape;
 use runs::Zone;
+use totals::Totals;
 
 // A line that was put: the place behind it, and the run's cells, 0 where the zone is broken there, and whether it is free.
 struct Line {
@@ -154,6 +156,26 @@ fn put_zones(pool: &[u8], out: &mut [u8], at: usize, s: Shape) -> usize
     to
 }
 
+// The line of the totals.
+fn put_total(out: &mut [u8], at: usize, t: Totals) -> usize
+    requires { ⌜ (at ≤ 65536) × Small (t .objects) (t .bytes) (t .free) ⌝ }
+    ensures { λ r. ⌜ Put 66 (now (out .entry)) at (totalText (t .objects) (t .bytes) (t .free)) (now (out .exit)) r ⌝ }
+{
+    let bytes = texts::put_between(out, at, b"(total (objects ", t.objects, b")");
+    let free = texts::put_between(out, bytes, b" (bytes ", t.bytes, b")");
+    texts::put_between(out, free, b" (free ", t.free, b"))\n")
+}
+
+// The two lines behind the zones: columns with wrong parity, and the totals.
+fn put_counts(pool: &[u8], out: &mut [u8], at: usize, s: Shape) -> usize
+    requires { ⌜ (at ≤ 61000) × Shaped (now pool) (shapeOf s) ⌝ }
+    ensures { λ r. ⌜ Put 93 (now (out .entry)) at (countLines (shapeOf s) (now (pool .entry))) (now (out .exit)) r ⌝ }
+{
+    let wrong = parity::wrong_columns(s, pool);
+    let total = texts::put_between(out, at, b"(columns (off ", wrong, b"))\n");
+    put_total(out, total, totals::pool_totals(pool, s))
+}
+
 // The text of a pool of the shape `s`.
 fn put_pool(pool: &[u8], out: &mut [u8], s: Shape) -> usize
     requires { ⌜ (length (now pool) ≤ 65536) × Shaped (now pool) (shapeOf s) ⌝ }
@@ -162,13 +184,7 @@ fn put_pool(pool: &[u8], out: &mut [u8], s: Shape) -> usize
     let zones = texts::put_pair(out, 0, b"(pool ", s.rows, s.cols);
     let runs = texts::put_between(out, zones, b" ", s.zones, b")\n");
     let columns = put_zones(pool, out, runs, s);
-    texts::put_between(
-        out,
-        columns,
-        b"(columns (off ",
-        parity::wrong_columns(s, pool),
-        b"))\n",
-    )
+    put_counts(pool, out, columns, s)
 }
 
 // What poolscan prints for `pool`, stored from the front of `out` on as far as it has room; the text's length, at most 65,536.

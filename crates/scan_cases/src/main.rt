@@ -1,10 +1,11 @@
-// What the scan prints for the pools in `data` and for others made of them: objects, breaks, parity, bytes behind a body and each refusal. The
-// pools and the expected output in `stdout` were worked out apart from this code.
+// What the scan prints for the pools in `data` and for others made of them: objects, breaks, parity, bytes behind a body, totals and each
+// refusal. The pools and the expected output in `stdout` were worked out apart from this code.
 //
 //   fresh      R 1, C 1, Z 1, one free run          objects    R 3, C 2, Z 2: bodies of 1 to 496 bytes, damaged ones, a full zone
 //   different  the same with another id in page 1    breaks     R 2, C 1, Z 16: each zone broken in another way, the last one whole
 //   parity     R 2, C 3, Z 2, four columns wrong      stray      R 2, C 1, Z 8: bytes behind bodies of 1 to 495 bytes, and in free runs
 //   bench      R 2, C 2, Z 1: the tag 5 object of document 01, byte 4,625 behind its body set
+//   full       R 2, C 2, Z 1: two objects of eight cells
 use libc::STDOUT_FILENO;
 
 // The text of `pool`, under its name.
@@ -59,13 +60,14 @@ fn show_lengths() {
     show(b"5,121 bytes", &pool[0..5121]);
 }
 
-// The longest pool that is scanned, and a longer one.
+// The longest pool that is scanned, and longer ones.
 fn show_longest() {
     let mut longest = io::large_buffer();
     pool::format(&mut longest, 13, 17, 1, 1);
     show(b"65,536 bytes", &longest);
     let mut longer = [0u8; 66048];
     pool::format(&mut longer, 14, 16, 1, 1);
+    show(b"65,537 bytes", &longer[0..65537]);
     show(b"66,048 bytes", &longer);
 }
 
@@ -76,6 +78,7 @@ fn main() {
     show_file(b"parity");
     show_file(b"stray");
     show_file(b"bench");
+    show_file(b"full");
     show_file(b"different");
     show_lengths();
     show_changed(b"first header invalid", 0, 0, 0, 0);
@@ -84,5 +87,6 @@ fn main() {
     show_changed(b"seal A", 519, 519, 1, 1);
     show_changed(b"seal B", 2560, 2560, 1, 1);
     show_changed(b"seals empty, logs not", 520, 2568, 1, 1);
+    show_changed(b"the only zone broken", 4608, 4864, 0, 0);
     show_longest();
 }

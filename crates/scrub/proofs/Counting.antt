@@ -45,9 +45,6 @@ object-room {v} {a} o = body-inside (part 16 a v) a (o .ok) refl (o .inside)
 pub head-there : (v st : List ℕ) (a : ℕ) {h : List ℕ} → ObjectThere v a → h ≡ part 16 a (seen v st 0) → (a + 64 * headCells h ≤ length v) × (objectOk h ≡ true)
 head-there v st a o q = (rw (q, seen-none v st) (o .inside), rw (q, seen-none v st) (o .ok))
 
-pub body-room : (v st : List ℕ) (a : ℕ) {h : List ℕ} {m : ℕ} → ObjectThere v a → h ≡ part 16 a (seen v st 0) → m ≡ headLength h → a + 16 + m ≤ length v
-body-room v st a o q l = rw (l, q, seen-none v st) (object-room o)
-
 pub free-at : (v : List ℕ) (a : ℕ) {f : Bool} → f ≡ true → false ≡ damagedAt v a f
 unfolding damagedAt
 free-at v a e = rw e

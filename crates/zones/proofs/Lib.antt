@@ -1,4 +1,5 @@
 pub mod Shaped
 pub mod Searching
+pub mod Summing
 pub mod NamedAt
 pub mod BodyAt

@@ -1,6 +1,6 @@
 -- `scan::put_pool` meets its contract. Assumes nothing.
 use Rattle.layout.proofs.Range.{bounds}
-use Rattle.scan.proofs.Scanning.{columns-low, pool-put, zones-low}
+use Rattle.scan.proofs.Scanning.{pool-put, zones-low}
 use native.Mathlib.Omega.{arith}
 use borrow.Author.Needs.{needs}
 use Rattle.scan.proofs.put_pool.Statement.{statement}
@@ -11,9 +11,6 @@ put-pair-requires c κs = let s = c .before .before .before .before in let g = b
 
 put-between-requires : tie.Need-put-between-requires
 put-between-requires c κs = (search needs, search (needs, zones-low))
-
-put-between-requires-2 : tie.Need-put-between-requires-2
-put-between-requires-2 c κs = (search needs, search (needs, columns-low))
 
 returns : tie.Need-returns
 returns c = search (needs, pool-put)
@@ -28,9 +25,6 @@ put-pool-spec =
     (λ c. search needs)
     put-between-requires
     (λ c κs. search needs)
-    (λ c. search needs)
     (λ c κs. search needs)
-    (λ c. search needs)
-    put-between-requires-2
     (λ c. search needs)
     returns)

@@ -3,7 +3,8 @@ use Prim.Native.Nat.{_-_}
 use Rattle.layout.proofs.Range.{bounds}
 use Rattle.layout.specs.Meaning.{shapeOf}
 use Rattle.zones.proofs.Shaped.{staged-none, zone-inside}
-use Rattle.scrub.proofs.CountingZones.{CountingZones, cells-small, zones-end, zones-start, zones-step}
+use Rattle.zones.proofs.Summing.{cells-small}
+use Rattle.scrub.proofs.CountingZones.{CountingZones, zones-end, zones-start, zones-step}
 use borrow.Author.Needs.{needs}
 use native.Mathlib.Omega.{arith}
 use Rattle.scrub.proofs.count_pool.Statement.{statement}

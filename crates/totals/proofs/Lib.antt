@@ -1,0 +1,2 @@
+pub mod Totalling
+pub mod TotallingZones

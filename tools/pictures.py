@@ -111,7 +111,7 @@ def pool_bytes():
     p.text(20, y, "Zone 0", bold=True)
     p.text(left, y, f"{rows} data rows and a parity row, each of {cols} pages; a page has {PAGE // CELL} cells of {CELL} bytes")
     owner = {}
-    for line in lines[1:-1]:
+    for line in [line for line in lines if line.startswith("(run ")]:
         z, first, kind, *rest = re.match(r"\(run (\d+) (\d+) \((object|free) (\d+)(?: (\d+))?", line).groups()
         size = -(-(HEAD + int(rest[1])) // CELL) if kind == "object" else int(rest[0])
         for c in range(int(first), int(first) + size):

@@ -860,12 +860,9 @@ pub totalLine-broken : totalLine (scanLines two brokenPool) ≡ ascii "(total (o
 unfolding opened
 totalLine-broken = refl
 
--- R 1, C 5, Z 1: a free run and an object, then a break, which hides a free run.
-abbrev brokenRow : List ℕ
-brokenRow = freeRun 2 ++ (objectA ++ (replicate 64 0 ++ freeRun 1))
-
+-- R 1, C 5, Z 1: a free run and an object, then a break, which hides a free run. The parity row is zero, and so each column is wrong.
 pub poolText-broken :
-    poolText (shape 64 1 5 1) (replicate 1152 0 ++ (brokenRow ++ brokenRow)) ≡ ascii "(pool 1 5 1)\n(run 0 0 (free 2))\n(run 0 2 (object 5 1 good))\n(broken 0 3)\n(columns (off 0))\n(total (objects 1) (bytes 1) (free 2))\n"
+    poolText (shape 64 1 5 1) (replicate 1152 0 ++ (freeRun 2 ++ (objectA ++ (replicate 64 9 ++ (freeRun 1 ++ replicate 320 0))))) ≡ ascii "(pool 1 5 1)\n(run 0 0 (free 2))\n(run 0 2 (object 5 1 good))\n(broken 0 3)\n(columns (off 5))\n(total (objects 1) (bytes 1) (free 2))\n"
 unfolding opened
 poolText-broken = refl
 

@@ -64,6 +64,8 @@ module _ (sh : Shape) (es : List Store) where
   unfolding act keep
   phase I F Q p r rest n i [] [] d hn k hd hm t =
       (i [] hn d hd, subst (λ (e : List Store). CrashSafe I F rest (st (lay p e) [] (r || any_seal sh es e))) (append-nil d) t)
+  phase I F Q p r rest n i [] (y ∷ m) d hn k hd hm t = elim k [ ]
+  phase I F Q p r rest n i (x ∷ l) [] d hn k hd hm t = elim k [ ]
   phase I F Q p r rest n i (x ∷ l) (y ∷ m) d hn k hd hm t = (
     i (x ∷ l) hn d hd,
     subst (λ (s : State). CrashSafe I F (l ++ barrier ∷ rest) s) (sym (k.0 d hd))

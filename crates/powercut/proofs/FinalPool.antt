@@ -131,6 +131,7 @@ module _ (sh : Shape) (g : Good sh) where
   )
 
   pub pars-row : (a : ℕ) (p : List ℕ) (es : List Store) → Covered a (par_stores sh p es) → InData sh a → ⊥
+  pars-row a p [] x h = elim x [ ]
   pars-row a p (e ∷ es) (inl i) h = place-not-data e.at (subst (InData sh) i h)
   pars-row a p (e ∷ es) (inr c) h = pars-row a p es c h
 
@@ -140,10 +141,12 @@ module _ (sh : Shape) (g : Good sh) where
 
   -- the places of the parity stores do not depend on the pool
   pub pars-cover : (a : ℕ) (p q : List ℕ) (es : List Store) → Covered a (par_stores sh p es) → Covered a (par_stores sh q es)
+  pars-cover a p q [] x = elim x [ ]
   pars-cover a p q (e ∷ es) (inl i) = inl i
   pars-cover a p q (e ∷ es) (inr c) = inr (pars-cover a p q es c)
 
   target-par : (t : ℕ) (p : List ℕ) (es : List Store) → Covered t es → Covered (parity_at sh t) (par_stores sh p es)
+  target-par t p [] x = elim x [ ]
   target-par t p (e ∷ es) (inl i) = inl (ap (parity_at sh) i)
   target-par t p (e ∷ es) (inr c) = inr (target-par t p es c)
 

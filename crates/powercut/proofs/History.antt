@@ -71,7 +71,7 @@ module _ (p staging : List ℕ) (ks : List Call) where
   uncut-runs r (Uncut.onward m w) = uncut-runs (Run.next r m) w
 
   -- no call turns a commit into a recovery, or the other way; a seal that has reached memory has done so for good
-  makes-keeps : {h h' : Holds} {s s' : State} → Makes p staging ks h s h' s' → (in_commit h' ≡ in_commit h) × (s.reached ≡ true → s'.reached ≡ true)
+  makes-keeps : {s s' : State} {h h' : Holds} → Makes p staging ks h s h' s' → (in_commit h' ≡ in_commit h) × (s.reached ≡ true → s'.reached ≡ true)
   makes-keeps (Makes.commit a) = (refl, λ i. i)
   makes-keeps (Makes.step {s = s} a) = (refl, reached-act (shape_in p) (entries p staging ks) _ s)
   makes-keeps (Makes.recover a) = (refl, λ i. i)

@@ -23,7 +23,7 @@ use Rattle.rules.proofs.Stores.{bytes-lay, length-lay}
 use Rattle.rules.proofs.StagedBook.{held-end}
 use Rattle.rules.proofs.Sound.{begun-is, repair-restores, sound-again, sound-fits}
 use Rattle.powercut.specs.Log.{Log}
-use Rattle.powercut.specs.Steps.{Remedy, nothing, parity, recovery_steps, remedy, replay, step_pool, steps_made}
+use Rattle.powercut.specs.Steps.{Remedy, nothing, recovery_steps, remedy, replay, step_pool, steps_made}
 use Rattle.powercut.specs.Power.{State, act, view}
 use Rattle.powercut.specs.Commit.{commit_list, commit_next, commit_start, commit_step, commit_tests, is_committing, next_phase, place_in, start_phase}
 use Rattle.powercut.specs.Recovery.{Progress, Recovery, finished, recovering, recovery_list, recovery_next, recovery_start, recovery_step, start_recovery}

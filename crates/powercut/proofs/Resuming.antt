@@ -279,7 +279,7 @@ module _ (inp : Input) where
       resumed-matches s₀ c Resumed.begin = c
       resumed-matches s₀ c (Resumed.next r m) = makes m (resumed-matches s₀ c r)
         where
-          makes : {h h' : Holds} {s s' : State} → Makes pool staging ks h s h' s' → MatchesIn h s → MatchesIn h' s'
+          makes : {s s' : State} {h h' : Holds} → Makes pool staging ks h s h' s' → MatchesIn h s → MatchesIn h' s'
           makes (Makes.commit f) b = absurd b
           makes (Makes.step f) b = absurd b
           makes (Makes.recover {s} f) b = recover-matches s b

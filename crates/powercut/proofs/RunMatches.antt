@@ -192,7 +192,7 @@ module _ (inp : Input) where
     log-kept = λ l n k s c i. claim.log-kept s l n k c i;
   }
 
-  makes-matches : {h h' : Holds} {s s' : State} → Makes pool staging ks h s h' s' → Matches h s → Matches h' s'
+  makes-matches : {s s' : State} {h h' : Holds} → Makes pool staging ks h s h' s' → Matches h s → Matches h' s'
   makes-matches (Makes.commit {t} {s} f) m = start-matches t s m f
   makes-matches (Makes.step {t} {s} f) m = step-matches t s m f
   makes-matches (Makes.recover {s} f) m = recover-matches inp (StepRun sh es pool) step-run-resuming s m

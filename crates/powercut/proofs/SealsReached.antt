@@ -71,7 +71,7 @@ module _ (pool staging : List ℕ) (ks : List Call) where
   abbrev es : List Store
   es = entries pool staging ks
 
-  makes-either : {h h' : Holds} {s s' : State} (m : Makes pool staging ks h s h' s')
+  makes-either : {s s' : State} {h h' : Holds} (m : Makes pool staging ks h s h' s')
       → s'.reached ≡ (s.reached || (passes pool staging ks from_a m || passes pool staging ks from_b m))
   unfolding passes
   makes-either (Makes.commit {t} {s} f) = sym (or-false s.reached)
@@ -198,12 +198,16 @@ module _ (inp : Input) (l : Log) where
   told : {h : Holds} {s : State} (r : Run inp.pool inp.staging inp.ks h s) → Told h s r
   unfolding reached_in passes
   told Run.begin = refl
-  told (Run.next r (Makes.commit {t} {s} f)) = or-false (reached_in inp.pool inp.staging inp.ks l r) ∙ told r
-  told (Run.next r (Makes.step {t} {s} f)) =
-      ap (λ (b : Bool). b || passes_seal_in shape staged l (commit_next (meets inp.pool inp.staging inp.ks s t)) s) (told r)
-      ∙ step-agrees t s (run-matches inp r) f
-  told (Run.next r (Makes.recover f)) = tt
-  told (Run.next r (Makes.again f)) = tt
+  told (Run.next r m) = makes r m (told r)
+    where
+      makes : {s s' : State} {h h' : Holds} (r : Run inp.pool inp.staging inp.ks h s) (m : Makes inp.pool inp.staging inp.ks h s h' s')
+          → Told h s r → Told h' s' (Run.next r m)
+      makes r (Makes.commit {t} {s} f) e = or-false (reached_in inp.pool inp.staging inp.ks l r) ∙ e
+      makes r (Makes.step {t} {s} f) e =
+          ap (λ (b : Bool). b || passes_seal_in shape staged l (commit_next (meets inp.pool inp.staging inp.ks s t)) s) e
+          ∙ step-agrees t s (run-matches inp r) f
+      makes r (Makes.recover f) e = tt
+      makes r (Makes.again f) e = tt
   told (Run.cut r k) = tt
   told (Run.cut_again r k) = tt
 

@@ -47,7 +47,7 @@ module _ (sh : Shape) (es : List Store) (l : Log) where
 
 module _ (pool staging : List ℕ) (ks : List Call) where
   -- A call of the run passes a store of that commit's seal into log l.
-  unfoldable pub passes : Log → {h h' : Holds} {s s' : State} → Makes pool staging ks h s h' s' → Bool
+  unfoldable pub passes : Log → {s s' : State} {h h' : Holds} → Makes pool staging ks h s h' s' → Bool
   passes l (Makes.commit f) = false
   passes l (Makes.step {t} {s} f) = passes_seal_in (shape_in pool) (entries pool staging ks) l (commit_next (meets pool staging ks s t)) s
   passes l (Makes.recover f) = false

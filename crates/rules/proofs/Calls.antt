@@ -13,7 +13,7 @@ use borrow.Author.Tests.{leb-true, ltb-true, lt-ltb}
 use Rattle.rules.specs.Words.{Bytes}
 use Rattle.rules.specs.Shape.{Shape, body_limit, zone_at, zone_cells}
 use Rattle.rules.specs.Header.{within}
-use Rattle.rules.specs.Runs.{Run, Walk, cell_count, cells, cells_for, check_word, free, free_head, object, object_bytes}
+use Rattle.rules.specs.Runs.{Run, Walk, cell_count, cells_for, check_word, free, free_head, object, object_bytes}
 use Rattle.rules.specs.Book.{Listed, enter, overwrite, strike}
 use Rattle.rules.specs.Search.{Place, fit, joined, run_at}
 use Rattle.rules.specs.Zones.{body_of, head_at, is_damaged, is_object, object_tests, run_there, walk_in, zone_data}

@@ -32,6 +32,8 @@ frees-book : (c : ℕ) (G X : List Run) → Frees G → book c (G ++ X) ≡ book
 unfolding book cell_count
 frees-book c [] X nothing = rw (add-zero c)
 frees-book c (free n ∷ []) X gap = rw (add-zero n)
+frees-book c (free n ∷ (_ ∷ _)) X x = elim x [ ]
+frees-book c (object _ _ _ _ ∷ _) X x = elim x [ ]
 
 frees-good : {G : List Run} → Frees G → AllGood G
 frees-good nothing = tt

@@ -125,10 +125,14 @@ around P n t b g Q bs l =
     before R (free m ∷ []) gap e f =
         let k : Laid false (R ++ (free m ∷ (object n t b g ∷ Q))) bs = rw (append_assoc R (free m ∷ []) (object n t b g ∷ Q)) at (rw e at l) in
         and-false _ _ (laid-starts (laid-split false R (free m ∷ (object n t b g ∷ Q)) bs k).laid-back) refl
+    before R (free m ∷ (_ ∷ _)) x e f = elim x [ ]
+    before R (object _ _ _ _ ∷ _) x e f = elim x [ ]
 
     behind : (G R : List Run) → Frees G → Q ≡ G ++ R → ((G ≡ []) → starts Q ≡ false) → {a : Bool} {cs : List ℕ} → Laid a (object n t b g ∷ Q) cs → starts R ≡ false
     behind [] R nothing e f (more s k l c) = ap starts (sym e) ∙ f refl
     behind (free m ∷ []) R gap e f (more s k l c) = after_free (rw e at l)
+    behind (free m ∷ (_ ∷ _)) R x e f _ = elim x [ ]
+    behind (object _ _ _ _ ∷ _) R x e f _ = elim x [ ]
 
 -- ---- what is found lies within the runs
 

@@ -130,5 +130,6 @@ all-covered [] = tt
 all-covered (x ∷ xs) = (inl refl, all_map {Q = λ a w. Covered a xs} {Q' = λ a w. Covered a (x ∷ xs)} (λ a w c. inr c) xs (all-covered xs))
 
 pub covered-fact : (P : ℕ → Type 0) (a : ℕ) (l : List Store) → Covered a l → All (λ b w. P b) l → P a
+covered-fact P a [] x h = elim x [ ]
 covered-fact P a (x ∷ xs) (inl e) h = subst P (sym e) h.0
 covered-fact P a (x ∷ xs) (inr c) h = covered-fact P a xs c h.1

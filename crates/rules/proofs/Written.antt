@@ -145,7 +145,7 @@ unfolding find book run_at
 find-run [] c d x e p q = absurd (let z : ◌≡◌ {A = ℕ} 0 1 = cc in omega arith)
 find-run (free n ∷ rs) c d x e p q =
     let i = find-run rs (c + n) (d + n) x e p.1 q in
-    (n + i.0, i.1, i.2, omega (arith, i.3), i.4, rw (ne_eqb d (d + (n + i.0)) (omega (arith, p.0))) (rw (← (add_assoc d n i.0)) i.5))
+    (n + i.0, i.1, i.2, omega (arith, i.3), i.4, rw (ne_eqb d (d + (n + i.0)) (omega (arith, p.0))) (ap (λ (z : ℕ). run_at z (d + n) rs) (sym (add_assoc d n i.0)) ∙ i.5))
 find-run (object n t b g ∷ rs) c d x e p q =
     split (eqb c x)
     (λ l.
@@ -160,7 +160,7 @@ find-run (object n t b g ∷ rs) c d x e p q =
     ))
     (λ l.
     let i = find-run rs (c + n) (d + n) x e p.1 (rw l at q) in
-    (n + i.0, i.1, i.2, omega (arith, i.3), i.4, rw (ne_eqb d (d + (n + i.0)) (omega (arith, p.0))) (rw (← (add_assoc d n i.0)) i.5)))
+    (n + i.0, i.1, i.2, omega (arith, i.3), i.4, rw (ne_eqb d (d + (n + i.0)) (omega (arith, p.0))) (ap (λ (z : ℕ). run_at z (d + n) rs) (sym (add_assoc d n i.0)) ∙ i.5)))
 
 -- READING BACK: an address of the book, looked up in the bytes
 pub look-book : (c x : ℕ) (bs : List ℕ) (rs : List Run) (e : Listed) → Laid false rs bs → find x (book c rs) ≡ some e → look_body bs (x - c) ≡ e.body

@@ -1,4 +1,6 @@
 // The rows of a column (01, "The pool's bytes"): their exclusive or, a page rebuilt from the others, a column's parity judged.
+#![tactic(auto)]
+
 ghost use Rattle.std.specs.Prelude.{◌≡◌, ◌+◌, ◌*◌, ◌≤◌, ◌<◌, min, length, replicate};
 ghost use Rattle.std.proofs.lemmas.List.Edits.{sets};
 ghost use Rattle.rules.specs.Shape.{page_size};

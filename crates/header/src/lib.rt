@@ -1,4 +1,6 @@
 // A header page (01, "The pool's bytes"), judged: letters, ranges, version, pool id, check, and zeros to the page's end.
+#![tactic(auto)]
+
 ghost use Rattle.std.specs.Prelude.{◌≡◌, ◌-◌, ◌<◌, eqb, length, take, drop, get_or, replicate};
 ghost use Rattle.rules.specs.Words.{field};
 ghost use Rattle.rules.specs.Check.{check as check_of};

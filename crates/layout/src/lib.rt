@@ -1,11 +1,13 @@
 // The pool's shape (01, "The pool's bytes"), its constants and checked constructor; a pool opened, and its id.
+#![tactic(auto)]
+
 ghost use Rattle.std.specs.Prelude.{◌≡◌, true, false, ◌*◌, ◌≤◌, ◌<◌, length};
 ghost use Rattle.rules.specs.Shape.{InZones, body_limit, byte_at, entry_limit, log_a, log_b, page_size, pool_size, row_at, row_size, shape, staging_size, zone_at, zone_cells, zone_size, zones_at};
 ghost use Rattle.rules.specs.Header.{header_ok, id_in, page_at, same};
 ghost use Rattle.layout.specs.Meaning.{InRange, checked, made_of, opened, opened_by, shape_of};
 
 // Bytes of a page, data rows of a zone, pages of a row, zones.
-#[derive(Drop)]
+#[derive(Clone, Copy)]
 pub struct Shape {
     pub page: usize,
     pub rows: usize,
@@ -14,14 +16,14 @@ pub struct Shape {
 }
 
 // A checked shape, or refusal 1.
-#[derive(Drop)]
+#[derive(Clone, Copy)]
 pub enum Made {
     Good(Shape),
     OutOfRange,
 }
 
 // A pool opened: its shape, or the refusal's number.
-#[derive(Drop)]
+#[derive(Clone, Copy)]
 pub enum Opened {
     Good(Shape),
     Refused(u8),
@@ -40,7 +42,7 @@ impl Shape {
     // The shape with these numbers, or refusal 1: one is not in its range. The second clause ties the constants to 01's limits.
     pub fn new(rows: usize, cols: usize, zones: usize) -> Made
         ensures result_value { made_of result ≡ checked (shape rows cols zones) }
-        ensures* limits { do ⌜ ((← (⟦Shape::PAGE⟧).entry) ≡ page_size) × ((← (⟦Shape::ENTRIES⟧).entry) ≡ entry_limit) × ((← (⟦Shape::BODY⟧).entry) ≡ body_limit) × ((← (⟦Shape::STAGING⟧).entry) ≡ staging_size) ⌝ }
+        ensures limits { (Shape.PAGE ≡ page_size) × (Shape.ENTRIES ≡ entry_limit) × (Shape.BODY ≡ body_limit) × (Shape.STAGING ≡ staging_size) }
     {
         if header::in_range(rows, cols, zones) {
             return Made::Good(Shape {

@@ -1,4 +1,6 @@
 // Parts of a page written: zeros, bytes given, a copy, and a header (01, "The pool's bytes").
+#![tactic(auto)]
+
 ghost use Rattle.std.specs.Prelude.{◌≡◌, ◌+◌, ◌≤◌, ◌<◌, length, take, drop, replicate};
 ghost use Rattle.std.proofs.lemmas.List.Edits.{sets};
 ghost use Rattle.rules.specs.Shape.{shape};

@@ -1,4 +1,6 @@
 // Parity by the pool's shape (01, "The pool's bytes"): the parity word for a place, and columns with wrong parity.
+#![tactic(auto)]
+
 ghost use Rattle.std.specs.Prelude.{◌≡◌, not, ◌≤◌, ◌<◌, length};
 ghost use Rattle.rules.specs.Shape.{InZones, parity_at, pool_size};
 ghost use Rattle.rules.specs.Parity.{parity_word};

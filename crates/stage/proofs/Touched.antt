@@ -1,7 +1,7 @@
 -- Words touched in staging memory: one that has an entry (`touched-old`), one that has none (`touched-new`), words in a row
 -- (`touched_none`, `touched-more`), how many entries stand there then (`length-words`), and room for them (`room_next`). Assumes nothing.
 use Prim.Native.Nat.{ℕ, zero, suc, ◌+◌, ◌-◌, ◌*◌, ◌%◌, ◌^◌, ◌≤◌, ◌<◌}
-use mathlib.Core.Path.{◌≡◌, refl, sym, ap, ap₂, ◌∙◌}
+use mathlib.Core.Path.{◌≡◌, refl, sym, subst, ap, ap₂, ◌∙◌}
 use mathlib.Core.Logic.{inl, inr}
 use mathlib.Core.List.{List, [], ◌∷◌, ◌++◌}
 use native.Mathlib.Nat.{add-zero, zero-add}
@@ -32,20 +32,23 @@ entries-found zero st a o w p h l k = absurd (omega arith)
 entries-found (suc n) st a o w p h l k =
     split (eqb (word st a) o)
     (λ y.
+    let z : slot o (entries_at st a (suc n)) ≡ 0 = rw y refl in
     let x : word (put st (a + 8) w) a ≡ o = word-put-other st (a + 8) w a (omega arith) p (λ e. omega arith) ∙ eqb-true (word st a) o y in
-    rw (y, x, word-put st (a + 8) w (omega arith) l, entries-put-other st (a + 16) n (a + 8) w (omega arith) (omega arith) (inl (omega arith))))
+    subst (λ (k : ℕ). entries_at (put st (a + (16 * k + 8)) w) a (suc n) ≡ touch o w (entries_at st a (suc n))) (sym z)
+    (rw (y, x, word-put st (a + 8) w (omega arith) l, entries-put-other st (a + 16) n (a + 8) w (omega arith) (omega arith) (inl (omega arith)))))
     (λ y.
     let j : ℕ = slot o (entries_at st (a + 16) n) in
     let k' = rw y at k in
     let m : a + (16 * suc j + 8) ≡ a + 16 + (16 * j + 8) = omega arith in
     let b : ℕ = a + 16 + (16 * j + 8) in
-    rw (
+    let z : slot o (entries_at st a (suc n)) ≡ suc j = rw y refl in
+    subst (λ (i : ℕ). entries_at (put st i w) a (suc n) ≡ touch o w (entries_at st a (suc n))) (sym (ap (λ (k : ℕ). a + (16 * k + 8)) z ∙ m))
+    (rw (
       y,
-      m,
       word-put-other st b w a (omega arith) p (λ e. omega arith),
       word-put-other st b w (a + 8) (omega arith) (omega arith) (λ e. omega arith),
       entries-found n st (a + 16) o w (omega arith) (omega arith) l (omega arith),
-    ))
+    )))
 
 pub touched-old : {st st' : List ℕ} {n o i w : ℕ} → 16 * n ≤ length st → w < 2 ^ 64 → Slot st n o i → i < n → st' ≡ put st (16 * i + 8) w
     → Touched st n o w st' n

@@ -1,4 +1,6 @@
 // The staged view, word by word, and words touched: entries of 16 bytes in lent staging memory, target offset and new word.
+#![tactic(auto)]
+
 ghost use Rattle.std.specs.Prelude.{◌≡◌, true, ◌++◌, ◌+◌, ◌*◌, ◌%◌, ◌^◌, ◌≤◌, ◌<◌, length};
 ghost use Rattle.rules.specs.Staging.{Tidy};
 ghost use Rattle.rules.specs.Words.{digits};

@@ -79,7 +79,7 @@ remainder x = to_z w64 (of_z w64 (rem_z (to_z w64 (of_z w64 x)) (pos modulus)))
 to_z-remainder : (x : ℤ) → SFits w64 x → remainder x ≡ rem_z x (pos modulus)
 to_z-remainder x h =
     ap (λ (z : ℤ). to_z w64 (of_z w64 (rem_z z (pos modulus)))) (to_z-of_z h)
-    ∙ to_z-of_z (record { sfits = lt_of_le_of_lt (mag_rem x (pos modulus)) h.sfits })
+    ∙ to_z-of_z {w = w64} (record { sfits = lt_of_le_of_lt (mag_rem x (pos modulus)) h.sfits })
 
 pub residue-below : (x : ℤ) → SFits w64 x → lt_z (remainder x) (pos 0) ≡ true → remainder x +ℤ pos modulus ≡ pos (residue x)
 residue-below x h e = rw (to_z-remainder x h) (remainder-below x (rw (to_z-remainder x h) at e))

@@ -1,10 +1,12 @@
 // The check (01, "The pool's bytes"): its two sums over bytes that come in parts, and brought up to date when bytes change.
+#![tactic(auto)]
+
 ghost use Rattle.std.specs.Prelude.{◌≡◌, ◌+◌, ◌*◌, ◌≤◌, ◌<◌, min, pos, ◌-ℤ◌, ◌*ℤ◌, length};
 ghost use Rattle.std.specs.Int.Signed.{mag};
-ghost use Rattle.rules.specs.Check.{check as check_of, modulus, moved as movedSum, reduced, residue as residueOf, updated as updatedCheck};
+ghost use Rattle.rules.specs.Check.{check as check_of, modulus, moved as moved_sum, reduced, residue as residue_of, updated as updated_check};
 ghost use Rattle.sums.specs.Fed.{Added, Below, Fed, Started, updated_range};
 
-#[derive(Drop)]
+#[derive(Clone, Copy)]
 pub struct Sums {
     pub low: u32,
     pub high: u32,
@@ -105,7 +107,7 @@ fn times(d: i64, n: u16) -> i64
 
 // A signed number reduced into 0 to 65520.
 fn residue(x: i64) -> u32
-    ensures { (result ≡ residueOf x) × (result < modulus) }
+    ensures { (result ≡ residue_of x) × (result < modulus) }
 {
     let m = x % 65521;
     if m < 0 { (m + 65521) as u32 } else { m as u32 }
@@ -114,14 +116,14 @@ fn residue(x: i64) -> u32
 // A sum, moved by n × (v − u).
 fn moved(sum: u32, n: u16, u: u8, v: u8) -> u32
     requires { sum < 65536 }
-    ensures { (result ≡ movedSum sum n u v) × (result < modulus) }
+    ensures { (result ≡ moved_sum sum n u v) × (result < modulus) }
 {
     (sum + residue(times(difference(u, v), n))) % 65521
 }
 
 // The check after one byte became `v`, where `n` bytes, itself among them, stand from it on.
 pub fn updated(check: u32, n: u16, u: u8, v: u8) -> u32
-    ensures { result ≡ updatedCheck check n u v }
+    ensures { result ≡ updated_check check n u v }
 {
     let high = moved(check / 65536, n, u, v);
     let low = moved(check % 65536, 1, u, v);

@@ -1,4 +1,6 @@
 // Text and decimal numbers put into a buffer as snprintf does: a byte past the buffer's end is counted and left out.
+#![tactic(auto)]
+
 ghost use Rattle.std.specs.Prelude.{◌≡◌, [], ◌∷◌, ◌+◌, ◌<◌, length};
 ghost use Rattle.rules.specs.Scan.{decimal};
 ghost use Rattle.texts.specs.Put.{between_text, pair_text, Put};

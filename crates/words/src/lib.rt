@@ -1,4 +1,6 @@
 // Fields of a byte slice, of 1, 2, 4 and 8 bytes, the lowest byte first: read, and stored.
+#![tactic(auto)]
+
 ghost use Rattle.std.specs.Prelude.{◌≡◌, ◌+◌, ◌≤◌, ◌<◌, length};
 ghost use Rattle.std.proofs.lemmas.List.Edits.{sets};
 ghost use Rattle.rules.specs.Words.{digits, put};

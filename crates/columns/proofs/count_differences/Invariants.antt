@@ -1,0 +1,11 @@
+-- `columns::count_differences` meets its contract. Assumes nothing.
+use Prim.Native.Nat.{◌-◌, ◌≤◌}
+use lib.ListN.{length}
+use Rattle.columns.proofs.Counting.{Counting}
+use Rattle.columns.proofs.count_differences.Given as goal
+
+abbrev pub invariant-loop-i : goal.invariant-loop-i
+invariant-loop-i l = (l.i ≤ length l.before) × Counting l.before l.after l.i l.total
+
+abbrev pub decreases-loop-i : goal.decreases-loop-i
+decreases-loop-i l = length l.before - l.i

@@ -1,6 +1,8 @@
 // A run's head (01, "Cells and runs") as two words: read as staged, judged, and made.
 //
 //   first    kind 2 bytes, run length in cells 2, body length 4        second    check 4, tag 4
+#![tactic(auto)]
+
 ghost use Rattle.std.specs.Prelude.{◌≡◌, [], ◌+◌, ◌*◌, ◌/◌, ◌%◌, ◌≤◌, ◌<◌, length, take};
 ghost use Rattle.std.proofs.lemmas.List.Edits.{sets};
 ghost use Rattle.rules.specs.Shape.{head_size};
@@ -13,7 +15,7 @@ ghost use Rattle.heads.specs.HeadWords.{covered_by, head_of, Checked};
 
 use sums::Sums;
 
-#[derive(Drop)]
+#[derive(Clone, Copy)]
 pub struct Head {
     pub first: u64,
     pub second: u64,

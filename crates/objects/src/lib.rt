@@ -1,4 +1,6 @@
 // The object at a cell of a zone (01, refusals 24 and 25), as staged.
+#![tactic(auto)]
+
 ghost use Rattle.std.specs.Prelude.{◌≡◌, true, ◌+◌, ◌-◌, ◌*◌, ◌%◌, ◌≤◌, ◌<◌, length, drop};
 ghost use Rattle.std.proofs.Math.Option.{some};
 ghost use Rattle.rules.specs.Words.{all_zero};
@@ -18,7 +20,7 @@ use runs::{Spot, Zone};
 use sums::Sums;
 
 // An object: its cells, its body's length and its tag; or a refusal's number.
-#[derive(Drop)]
+#[derive(Clone, Copy)]
 pub enum Named {
     Object(usize, usize, u32),
     Refused(u8),

@@ -1,4 +1,6 @@
 // The walk over a zone's runs (01, "Cells and runs") as staged: judged whole, and a run found by its cell.
+#![tactic(auto)]
+
 ghost use Rattle.std.specs.Prelude.{◌≡◌, true, ◌+◌, ◌*◌, ◌≤◌, ◌<◌};
 ghost use Rattle.std.proofs.Math.Option.{none};
 ghost use Rattle.rules.specs.Search.{run_at};
@@ -8,14 +10,14 @@ ghost use Rattle.runs.specs.Rest.{rest_of, walk_of, walk_on, Meets, Zoned};
 ghost use Rattle.runs.specs.Spotted.{free_of, Came, Joined, Lead, Located, Spotted};
 
 // A zone's data bytes: where they start, and their cells.
-#[derive(Drop)]
+#[derive(Clone, Copy)]
 pub struct Zone {
     pub from: usize,
     pub cells: usize,
 }
 
 // A run that was met: its cells, 0 where the zone is broken there, and whether it is free.
-#[derive(Drop)]
+#[derive(Clone, Copy)]
 pub struct Met {
     pub cells: usize,
     pub free: bool,
@@ -23,7 +25,7 @@ pub struct Met {
 
 // How far the walk to a cell came: whether it met no broken run; and where it met none, the free cells right before the cell it came to, that
 // cell, and whether a free run stands right before it.
-#[derive(Drop)]
+#[derive(Clone, Copy)]
 struct Way {
     whole: bool,
     prior: usize,
@@ -33,7 +35,7 @@ struct Way {
 
 // A cell where a run may begin: whether its zone is unbroken; and in an unbroken zone the free cells right before it, the run's cells (0 where
 // none begins), and whether it is free.
-#[derive(Drop)]
+#[derive(Clone, Copy)]
 pub struct Spot {
     pub whole: bool,
     pub prior: usize,
@@ -42,7 +44,7 @@ pub struct Spot {
 }
 
 // Some cells of a zone: the first, and how many.
-#[derive(Drop)]
+#[derive(Clone, Copy)]
 pub struct Place {
     pub cell: usize,
     pub count: usize,

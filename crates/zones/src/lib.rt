@@ -1,4 +1,6 @@
 // The pool's zones (01, "Cells and runs"): the search for free cells, the object at a cell address, as staged; and where its body lies.
+#![tactic(auto)]
+
 ghost use Rattle.std.specs.Prelude.{◌≡◌, ◌&&◌, ◌*◌, ◌<◌, leb};
 ghost use Rattle.rules.specs.Shape.{zone_cells};
 ghost use Rattle.rules.specs.Zones.{head_at};
@@ -14,14 +16,14 @@ use objects::Named;
 use runs::{Spot, Zone};
 
 // A free run that fits: its zone, first cell and cells; or a refusal's number.
-#[derive(Drop)]
+#[derive(Clone, Copy)]
 pub enum Found {
     At(usize, usize, usize),
     Refused(u8),
 }
 
 // A body: its place and length; or a refusal's number.
-#[derive(Drop)]
+#[derive(Clone, Copy)]
 pub enum Body {
     At(usize, usize),
     Refused(u8),

@@ -23,9 +23,9 @@ use Rattle.layout.specs.Meaning.{InRange, Shaped, shape_of}
 use Rattle.layout.proofs.Range.{shape-good}
 use Rattle.layout.proofs.Opening.{shaped-room}
 use Rattle.columns.specs.Column.{Word}
-use Rattle.log.specs.Targets.{all_fit, fits, read}
-use Rattle.log.proofs.Targets.{entry, fits-row, loaded_word}
-use Rattle.log.proofs.Logs.{length-read}
+use Rattle.pool_log.specs.Targets.{all_fit, fits, read}
+use Rattle.pool_log.proofs.Targets.{entry, fits-row, loaded_word}
+use Rattle.pool_log.proofs.Logs.{length-read}
 use Rattle.actions.specs.declared.Action.{Action}
 use Rattle.actions.specs.declared.Action.TheVariants.{Barrier, Store}
 use Rattle.actions.specs.Actions.{Computed, Inside, Ready, action_of, answer_of, applied, clear_action, commit_action, log_action, parity_action, redo_action, seal_action}

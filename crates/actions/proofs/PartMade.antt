@@ -16,8 +16,8 @@ use Rattle.powercut.proofs.StepCount.{commit-count, commit-redo, commit-seal, re
 use Rattle.words.specs.Loaded.{Loaded}
 use Rattle.layout.specs.declared.Shape.{Shape}
 use Rattle.layout.specs.Meaning.{InRange, shape_of}
-use Rattle.log.specs.Targets.{read}
-use Rattle.log.proofs.Logs.{length-read}
+use Rattle.pool_log.specs.Targets.{read}
+use Rattle.pool_log.proofs.Logs.{length-read}
 use Rattle.actions.specs.declared.Action.{Action}
 use Rattle.actions.specs.declared.Action.TheVariants.{Store}
 use Rattle.actions.specs.Actions.{Computed, Inside, Ready, applied, commit_action, log_action, parity_action, redo_action}

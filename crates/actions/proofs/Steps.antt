@@ -12,7 +12,7 @@ use Rattle.powercut.specs.Log.{Log, count_in, log_at, valid}
 use Rattle.powercut.specs.Steps.{Step, barrier, clear, commit_steps, recovery_steps, replay, step_pool}
 use Rattle.powercut.specs.Commit.{made_answer}
 use Rattle.powercut.proofs.Logs.{log-targets}
-use Rattle.log.specs.Targets.{all_fit, read}
+use Rattle.pool_log.specs.Targets.{all_fit, read}
 use Rattle.actions.specs.declared.Action.{Action}
 use Rattle.actions.specs.declared.Action.TheVariants.{Barrier, Store}
 use Rattle.actions.specs.Actions.{Computed, Ready, action_of, answer_of, applied, clear_action, commit_action, redo_action, told_of}

@@ -5,7 +5,7 @@ use Rattle.rules.specs.Shape.{Shape, entry_limit, entry_size, log_a, log_b, log_
 use Rattle.rules.specs.Parity.{parity_word}
 use Rattle.rules.specs.Answer.{Answer, passed, stored}
 use Rattle.powercut.specs.Steps.{Step, barrier, clear, commit_steps, parity, recovery_steps, redo, store}
-use Rattle.log.specs.Targets.{all_fit, read}
+use Rattle.pool_log.specs.Targets.{all_fit, read}
 use Rattle.answers.specs.declared.Answer as Told
 use Rattle.answers.specs.declared.Answer.TheVariants as Cases
 use Rattle.actions.specs.declared.Action.{Action}

@@ -1,4 +1,6 @@
 // One step of a commit or of a recovery, computed from its number and applied (01, "Commit, cut, recovery").
+#![tactic(auto)]
+
 ghost use Rattle.std.specs.Prelude.{◌≡◌, ◌+◌, ◌*◌, ◌≤◌, ◌<◌, length};
 ghost use Rattle.rules.specs.Words.{word};
 ghost use Rattle.rules.specs.Shape.{InZones, entry_limit, pool_size, zones_at};
@@ -11,7 +13,7 @@ pub mod parts; // the steps up to the next barrier
 pub mod replays; // the same for the entries of a log in the pool itself
 
 // What a step does to the pool that it meets: one aligned 8-byte store, or a barrier.
-#[derive(Drop)]
+#[derive(Clone, Copy)]
 pub enum Action {
     Store { at: usize, val: u64 },
     Barrier,
@@ -115,7 +117,7 @@ pub fn commit_action(s: Shape, pool: &[u8], staging: &[u8], n: usize, k: usize) 
     }
     let m = k - 4 * n;
     if m < 4 {
-        return seal_action(s, log::seal(staging, 0, n), m);
+        return seal_action(s, pool_log::seal(staging, 0, n), m);
     }
     redo_action(s, pool, staging, 0, n, m - 4)
 }

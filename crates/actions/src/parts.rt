@@ -1,7 +1,7 @@
 // The steps of a commit or of a recovery up to the next barrier: one aligned 8-byte store for each, in the list's order. Nothing is judged here.
 ghost use Rattle.std.specs.Prelude.{◌+◌, ◌*◌, ◌≤◌, ◌<◌};
 ghost use Rattle.layout.specs.Meaning.{InRange, Shaped, shape_of};
-ghost use Rattle.log.specs.Targets.{read};
+ghost use Rattle.pool_log.specs.Targets.{read};
 ghost use Rattle.powercut.specs.Steps.{clear, commit_steps, recovery_steps, redo};
 ghost use Rattle.powercut.specs.Advance.{commit_barrier, redo_barrier};
 ghost use Rattle.actions.specs.Actions.{Ready};
@@ -92,7 +92,7 @@ pub fn commit_part(s: Shape, pool: &mut [u8], staging: &[u8], n: usize, k: usize
         return log_part(s, pool, staging, n, k);
     }
     if k <= 4 * n + 3 {
-        let w = log::seal(staging, 0, n);
+        let w = pool_log::seal(staging, 0, n);
         return 4 * n + 1 + seal_part(s, pool, w, k - (4 * n + 1));
     }
     4 * n + 4 + redo_part(s, pool, staging, 0, n, k - (4 * n + 4))

@@ -3,7 +3,7 @@
 ghost use Rattle.std.specs.Prelude.{◌+◌, ◌*◌, ◌≤◌, ◌<◌};
 ghost use Rattle.rules.specs.Shape.{zones_at};
 ghost use Rattle.layout.specs.Meaning.{InRange, shape_of};
-ghost use Rattle.log.specs.Targets.{read};
+ghost use Rattle.pool_log.specs.Targets.{read};
 ghost use Rattle.powercut.specs.Steps.{redo};
 ghost use Rattle.powercut.specs.Advance.{redo_barrier};
 ghost use Rattle.actions.specs.Actions.{Ready};

@@ -1,8 +1,10 @@
 // Allocate (01, "Transactions"): the lowest zone's lowest free run that is long enough, and the words of the new object touched.
+#![tactic(auto)]
+
 ghost use Rattle.std.specs.Prelude.{◌≡◌, true, ◌+◌, ◌-◌, ◌*◌, ◌^◌, ◌≤◌, ◌<◌, length};
 ghost use Rattle.rules.specs.Runs.{cells_for, free_head, object_bytes};
 ghost use Rattle.rules.specs.Answer.{address as address_of};
-ghost use Rattle.rules.specs.Plan.{allocate as allocateCall};
+ghost use Rattle.rules.specs.Plan.{allocate as allocate_call};
 ghost use Rattle.words.specs.Loaded.{Loaded};
 ghost use Rattle.stage.specs.Index.{Indexed};
 ghost use Rattle.stage.specs.View.{entries_of, seen, Staged as StagedOn};
@@ -167,7 +169,7 @@ fn allocate_indexed(
     body: &[u8],
 ) -> Staged
     requires { Judged (shape_of s) pool.now staging.old count × Indexed index.now staging.old count }
-    ensures { left_of result staging.new ≡ planned (shape_of s) pool.now staging.old count (allocateCall tag body.now) }
+    ensures { left_of result staging.new ≡ planned (shape_of s) pool.now staging.old count (allocate_call tag body.now) }
 {
     let found = free_run(pool, staging, index, count, s, body.len());
     match found {
@@ -194,7 +196,7 @@ pub fn allocate(
     body: &[u8],
 ) -> Staged
     requires { Judged (shape_of s) pool.now staging.old count }
-    ensures { left_of result staging.new ≡ planned (shape_of s) pool.now staging.old count (allocateCall tag body.now) }
+    ensures { left_of result staging.new ≡ planned (shape_of s) pool.now staging.old count (allocate_call tag body.now) }
 {
     let mut index = [0; stage::INDEX];
     stage::fill_index(&mut index, staging, count);

@@ -19,7 +19,7 @@ use Rattle.stage.specs.View.{entries_of, seen}
 use Rattle.stage.specs.Touched.{Grown}
 use Rattle.stage.proofs.Entries.{length-entries}
 use Rattle.answers.specs.Planned.{conclude_staged, many_test, planned, stage_entries}
-use Rattle.log.proofs.Logs.{bytes_read}
+use Rattle.pool_log.proofs.Logs.{bytes_read}
 
 -- staging memory that holds the entries, and beyond them what it held
 pub stored_bytes : {st st' : List ℕ} {n m : ℕ} {es : List Store} → Bytes st' → 16 * m ≤ length st' → Grown st n st' m → entries_of st' m ≡ es

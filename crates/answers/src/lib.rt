@@ -1,11 +1,13 @@
 // What the calls on a transaction and on a recovery answer, an answer as two numbers, its kind and its value, and what a call that stages
 // words leaves.
+#![tactic(auto)]
+
 ghost use Rattle.std.specs.Prelude.{◌≡◌};
 ghost use Rattle.rules.specs.Answer.{is_refused};
 ghost use Rattle.answers.specs.Meaning.{answer_of, kind_of, value_of};
 
 // 01 numbers the steps of a commit or of a recovery from 1.
-#[derive(Drop)]
+#[derive(Clone, Copy)]
 pub enum Answer {
     Address(usize),
     Taken,
@@ -72,7 +74,7 @@ pub fn value(answer: Answer) -> usize
 }
 
 // The answer, and the number of entries then.
-#[derive(Drop)]
+#[derive(Clone, Copy)]
 pub struct Staged {
     pub answer: Answer,
     pub count: usize,

@@ -30,7 +30,7 @@ use Rattle.powercut.proofs.RunMatches.{list_length}
 use Rattle.layout.specs.declared.Shape.{Shape}
 use Rattle.layout.specs.declared.Opened.TheVariants as Opening
 use Rattle.layout.specs.Meaning.{InRange, opened, shape_of}
-use Rattle.log.specs.Targets.{read}
+use Rattle.pool_log.specs.Targets.{read}
 use Rattle.actions.specs.declared.Action.{Action}
 use Rattle.actions.specs.declared.Action.TheVariants.{Barrier}
 use Rattle.actions.specs.Actions as Steps

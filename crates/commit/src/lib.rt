@@ -1,5 +1,7 @@
 // Commit by steps (01, "Commit, cut, recovery"): what its start and each step answer, the record then, and the step made; and all steps up to
 // the next barrier.
+#![tactic(auto)]
+
 ghost use Rattle.std.specs.Prelude.{◌≡◌, not, ◌&&◌, ◌+◌, ◌<◌, eqb};
 ghost use Rattle.std.proofs.Math.Option.{none};
 ghost use Rattle.rules.specs.Header.{shape_in};
@@ -21,14 +23,14 @@ use layout::Shape;
 use record::{Phase, Record};
 
 // What a start or a step answers, and the record then.
-#[derive(Drop)]
+#[derive(Clone, Copy)]
 pub struct Stepped {
     pub answer: Answer,
     pub txn: Record,
 }
 
 // Where a commit goes on: from step k + 1, or refused.
-#[derive(Drop)]
+#[derive(Clone, Copy)]
 enum Turn {
     Refused(u8),
     From(usize),
@@ -56,7 +58,7 @@ fn sealed(s: Shape, pool: &[u8], k: usize) -> bool
     ensures { result ≡ (eqb k 0 && not (unsealed (shape_of s) pool.now)) }
 {
     if k == 0 {
-        return !log::seals_zero(s, pool);
+        return !pool_log::seals_zero(s, pool);
     }
     false
 }

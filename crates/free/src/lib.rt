@@ -1,4 +1,6 @@
 // Free (01, "Transactions"): the run joined with its free neighbours, and its head touched.
+#![tactic(auto)]
+
 ghost use Rattle.std.specs.Prelude.{◌≡◌, ◌+◌, ◌^◌, ◌≤◌, ◌<◌, length};
 ghost use Rattle.rules.specs.Shape.{entry_limit, staging_size};
 ghost use Rattle.rules.specs.Runs.{free_head};

@@ -1,5 +1,7 @@
 // A range of bytes laid over the staged view (01, "Transactions": write): the check brought up to date by signed differences, and the
 // words that hold the range touched.
+#![tactic(auto)]
+
 ghost use Rattle.std.specs.Prelude.{◌≡◌, true, ◌+◌, ◌≤◌, length, drop};
 ghost use Rattle.std.proofs.lemmas.List.Edits.{sets};
 ghost use Rattle.rules.specs.Words.{digits, word as word_of};

@@ -22,8 +22,8 @@ use Rattle.layout.specs.declared.Opened.TheVariants as Opening
 use Rattle.layout.specs.Meaning.{Shaped, opened, shape_of}
 use Rattle.layout.proofs.Range.{shape-good}
 use Rattle.layout.proofs.Opening.{open-good, open-passed, open-shaped}
-use Rattle.log.specs.Targets.{all_fit, read}
-use Rattle.log.proofs.Targets.{all-fit-is}
+use Rattle.pool_log.specs.Targets.{all_fit, read}
+use Rattle.pool_log.proofs.Targets.{all-fit-is}
 use Rattle.stage.proofs.View.{staged-good}
 use Rattle.answers.specs.Planned.{Judged}
 use Rattle.record.specs.declared.Phase as Code

@@ -1,4 +1,6 @@
 // A transaction's record: the id of its pool, the entries counted, and its phase; judged (01, refusals 9, 10, 11, 29 and 21).
+#![tactic(auto)]
+
 ghost use Rattle.std.specs.Prelude.{◌≡◌, not, ◌++◌, ◌≤◌, length};
 ghost use Rattle.rules.specs.Shape.{entry_limit, staging_size};
 ghost use Rattle.rules.specs.Test.{first};
@@ -11,7 +13,7 @@ ghost use Rattle.record.specs.Meaning.{given, in_phase, phase_of, record_of, ver
 use layout::Shape;
 
 // Open; k steps of the commit made; or closed.
-#[derive(Drop)]
+#[derive(Clone, Copy)]
 pub enum Phase {
     Open,
     Committing(usize),
@@ -19,7 +21,7 @@ pub enum Phase {
 }
 
 // The id of the pool that it was begun on, the entries counted, and the phase.
-#[derive(Drop)]
+#[derive(Clone, Copy)]
 pub struct Record {
     pub id: u64,
     pub count: usize,
@@ -62,7 +64,7 @@ impl Record {
 }
 
 // A record judged: good, or the refusal's number.
-#[derive(Drop)]
+#[derive(Clone, Copy)]
 pub enum Verdict {
     Good,
     Refused(u8),
@@ -100,7 +102,7 @@ fn possible(s: Shape, staging: &[u8], txn: Record) -> bool
     if past(txn) {
         return false;
     }
-    log::targets_fit(s, staging, 0, txn.count)
+    pool_log::targets_fit(s, staging, 0, txn.count)
 }
 
 // The record judged on an opened pool of this shape: good, or the first of refusals 9, 10, 11.
@@ -142,7 +144,7 @@ pub fn ready(s: Shape, pool: &[u8], staging: &[u8], txn: Record) -> Verdict
             if !live(txn) {
                 return Verdict::Refused(29);
             }
-            if log::seals_zero(s, pool) {
+            if pool_log::seals_zero(s, pool) {
                 return Verdict::Good;
             }
             Verdict::Refused(21)

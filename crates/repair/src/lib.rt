@@ -1,4 +1,6 @@
 // Repair (01, "Repair and scrub"): the loss list judged, and lost pages rebuilt, at most one a column.
+#![tactic(auto)]
+
 ghost use Rattle.std.specs.Prelude.{◌≡◌, false, suc, ◌*◌, ◌^◌, ◌<◌, length};
 ghost use Rattle.std.specs.Int.Count.{ones, count_trailing_zeros};
 ghost use Rattle.rules.specs.Shape.{pool_size};

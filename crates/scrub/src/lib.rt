@@ -1,4 +1,6 @@
 // The counts of scrub (01, "Repair and scrub"), over committed bytes. 01's scrub is an integrity scan.
+#![tactic(auto)]
+
 ghost use Rattle.std.specs.Prelude.{◌≡◌, false, cond, ◌%◌, ◌≤◌, []};
 ghost use Rattle.stage.specs.View.{Staged};
 ghost use Rattle.runs.specs.Rest.{Zoned};
@@ -9,7 +11,7 @@ use layout::Shape;
 use runs::Zone;
 
 // What the walk over a zone met: objects, damaged ones, and whether the zone is unbroken.
-#[derive(Drop)]
+#[derive(Clone, Copy)]
 struct Tally {
     objects: usize,
     damaged: usize,
@@ -17,7 +19,7 @@ struct Tally {
 }
 
 // Objects met, damaged ones, broken zones, columns with wrong parity.
-#[derive(Drop)]
+#[derive(Clone, Copy)]
 pub struct Counts {
     pub objects: usize,
     pub damaged: usize,

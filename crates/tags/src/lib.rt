@@ -1,4 +1,6 @@
 // The look-up by tag (A.1) in a pool of a known shape, over committed bytes. It reads heads only: damage hides no tag.
+#![tactic(auto)]
+
 ghost use Rattle.std.specs.Prelude.{◌≡◌, [], ◌+◌, ◌%◌, ◌≤◌, ◌<◌, length};
 ghost use Rattle.std.proofs.Math.Option.{or_else};
 ghost use Rattle.stage.specs.View.{Staged};
@@ -10,7 +12,7 @@ use layout::Shape;
 use runs::Zone;
 
 // What is found: an address; no object with this tag; or a zone is broken.
-#[derive(Drop)]
+#[derive(Clone, Copy)]
 pub enum Hit {
     At(usize),
     Absent,
@@ -18,7 +20,7 @@ pub enum Hit {
 }
 
 // What the walk over a zone met: the first hit, 0 for none, the address and 1 else; and whether the zone is unbroken.
-#[derive(Drop)]
+#[derive(Clone, Copy)]
 struct Pass {
     hit: usize,
     whole: bool,

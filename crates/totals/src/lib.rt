@@ -1,4 +1,6 @@
 // The totals under poolscan's lines (A.7): one pass over each zone's heads. Runs before a break count, and damaged objects too.
+#![tactic(auto)]
+
 ghost use Rattle.std.specs.Prelude.{◌≡◌, [], ◌+◌, ◌%◌, ◌≤◌, ◌<◌, length};
 ghost use Rattle.stage.specs.View.{Staged};
 ghost use Rattle.runs.specs.Rest.{Zoned};
@@ -9,7 +11,7 @@ use layout::Shape;
 use runs::Zone;
 
 // Objects, the bytes of their bodies, free cells.
-#[derive(Drop)]
+#[derive(Clone, Copy)]
 pub struct Totals {
     pub objects: usize,
     pub bytes: usize,

@@ -1,11 +1,13 @@
 // Write (01, "Transactions"): new bytes for a range of an object's body, staged with the check that the object has then.
+#![tactic(auto)]
+
 ghost use Rattle.std.specs.Prelude.{◌≡◌, true, not, ◌&&◌, ◌+◌, ◌*◌, ◌≤◌, ◌<◌, leb, length};
 ghost use Rattle.std.proofs.lemmas.List.Edits.{sets};
 ghost use Rattle.rules.specs.Words.{digits};
 ghost use Rattle.rules.specs.Shape.{entry_limit, staging_size};
 ghost use Rattle.rules.specs.Runs.{check_word};
 ghost use Rattle.rules.specs.Answer.{taken};
-ghost use Rattle.rules.specs.Plan.{touch_write, write as writeCall};
+ghost use Rattle.rules.specs.Plan.{touch_write, write as write_call};
 ghost use Rattle.layout.specs.Meaning.{shape_of};
 ghost use Rattle.stage.specs.Index.{Indexed};
 ghost use Rattle.stage.specs.Touched.{added};
@@ -137,7 +139,7 @@ fn write_indexed(
     bytes: &[u8],
 ) -> Staged
     requires { Judged (shape_of s) pool.now staging.old count × Indexed index.now staging.old count }
-    ensures { left_of result staging.new ≡ planned (shape_of s) pool.now staging.old count (writeCall a at bytes.now) }
+    ensures { left_of result staging.new ≡ planned (shape_of s) pool.now staging.old count (write_call a at bytes.now) }
 {
     match zones::object_at(pool, staging, index, count, s, a) {
         Named::Refused(n) => Staged {
@@ -176,7 +178,7 @@ pub fn write(
     bytes: &[u8],
 ) -> Staged
     requires { Judged (shape_of s) pool.now staging.old count }
-    ensures { left_of result staging.new ≡ planned (shape_of s) pool.now staging.old count (writeCall a at bytes.now) }
+    ensures { left_of result staging.new ≡ planned (shape_of s) pool.now staging.old count (write_call a at bytes.now) }
 {
     let mut index = [0; stage::INDEX];
     stage::fill_index(&mut index, staging, count);

@@ -1,0 +1,13 @@
+-- `actions::parts::parity_part` meets its contract. Assumes nothing.
+use Prim.Native.Nat.{◌+◌, ◌*◌, ◌-◌, ◌≤◌}
+use Rattle.layout.specs.Meaning.{shape_of}
+use Rattle.pool_log.specs.Targets.{read}
+use Rattle.powercut.specs.Steps.{redo}
+use Rattle.actions.proofs.PartMade.{Along}
+use Rattle.actions.proofs.parts.parity_part.Given as goal
+
+abbrev pub invariant-loop-i : goal.invariant-loop-i
+invariant-loop-i l = (l.i ≤ l.n) × Along (shape_of l.s) (redo (shape_of l.s) (read l.src l.at l.n)) (2 * l.n + 1) (l.n + 1 + l.k) l.initial.pool (l.n + 1 + l.i) l.pool
+
+abbrev pub decreases-loop-i : goal.decreases-loop-i
+decreases-loop-i l = l.n - l.i

@@ -1,0 +1,21 @@
+-- `actions::parts::redo_part` meets its contract. Assumes nothing.
+use mathlib.Core.Path.{refl}
+use native.Mathlib.Omega.{arith}
+use Rattle.layout.specs.Meaning.{shape_of}
+use Rattle.actions.proofs.PartMade.{ready-kept, redo-by-data, redo-by-parity, redo-by-seals}
+use Rattle.actions.proofs.parts.redo_part.Goals as goal
+
+pub returns-then-k-n : goal.returns-then-k-n
+returns-then-k-n c = redo-by-data (shape_of c.args.s) _ _ _ _ (omega arith) c.data_part.ensures
+
+pub parity_part-requires : goal.parity_part-requires
+parity_part-requires c = (c.requires.0, ready-kept c.requires.1 refl (omega arith), omega arith)
+
+pub returns-then-k-n-2 : goal.returns-then-k-n-2
+returns-then-k-n-2 c = redo-by-parity (shape_of c.args.s) _ _ _ _ (omega arith) (omega arith) c.parity_part.ensures
+
+pub seal_part-requires : goal.seal_part-requires
+seal_part-requires c = (record { range = c.requires.0; size = c.requires.1.whole }, omega arith)
+
+pub returns : goal.returns
+returns c = redo-by-seals (shape_of c.args.s) _ _ _ _ (omega arith) (omega arith) (omega arith) c.seal_part.ensures

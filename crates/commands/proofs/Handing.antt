@@ -12,9 +12,7 @@ use Rattle.zones.specs.declared.Body.{Body}
 use Rattle.zones.specs.declared.Body.TheVariants.{At, Refused}
 use Rattle.setups.specs.Setups.{saved, unsaved}
 use Rattle.setups.proofs.Saved.{save-refused}
-use Rattle.lines.specs.Line.{reading}
-use Rattle.lines.specs.Meaning.{command_of}
-use Rattle.lines.specs.declared.Command.{Command}
+use Rattle.lines.specs.Line.{Command, reading}
 use Rattle.errors.specs.Errors.{Queue, entered, execution_error, line}
 use Rattle.errors.specs.Meaning.{queue_out, taken_out}
 use Rattle.errors.specs.declared.Queue as Code
@@ -71,8 +69,8 @@ module _ (w : Queue) where
   unfolding answered taken_out
   ask-hands out t l o staging = rw (l, o, t)
 
-  -- x is the command that the line reads as
-  pub command-hands : (l setup pool staging out : List ℕ) {x c : Command} → command_of x ≡ reading l → x ≡ c
-      → {y : Handed} → y ≡ handed (carried_out (command_of c) setup w pool staging out) → y ≡ handed (obeyed l setup w pool staging out)
+  -- c is the command that the line reads as
+  pub command-hands : (l setup pool staging out : List ℕ) {c : Command} → c ≡ reading l
+      → {y : Handed} → y ≡ handed (carried_out c setup w pool staging out) → y ≡ handed (obeyed l setup w pool staging out)
   unfolding obeyed
-  command-hands l setup pool staging out i e h = h ∙ rw (← i, e)
+  command-hands l setup pool staging out i h = h ∙ rw (← i)

@@ -1,5 +1,7 @@
 // A command line obeyed (A.3): set-ups saved and recalled, and the oldest error asked for, over the contracts of `setups`, `lines` and `errors`
 // alone. No function has a `requires`: each answers for all inputs.
+#![tactic(auto)]
+
 ghost use Rattle.std.specs.Prelude.{◌≡◌, ℕ, List};
 ghost use Rattle.errors.specs.Meaning.{queue_in};
 ghost use Rattle.setups.specs.Setups.{recalled, saved};
@@ -14,7 +16,7 @@ use zones::Body;
 
 // What was done: a set-up is staged in this transaction, whose commit and steps are the caller's; a set-up lies at this place of the pool,
 // with this length; a line of this length was printed.
-#[derive(Drop)]
+#[derive(Clone, Copy)]
 pub enum Done {
     Nothing,
     Saving(Transaction),
@@ -22,7 +24,7 @@ pub enum Done {
     Printed(usize),
 }
 
-#[derive(Drop)]
+#[derive(Clone, Copy)]
 pub struct Obeyed {
     pub queue: Queue,
     pub done: Done,

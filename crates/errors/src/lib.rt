@@ -1,5 +1,7 @@
 // The errors of the command lines and the queue of ten in which they wait (A.3). The numbers stand without their minus. No public function has
 // a `requires`: a queue that is not fit counts as empty, and what is handed back has zeros in its unused places.
+#![tactic(auto)]
+
 ghost use Rattle.std.specs.Prelude.{◌≡◌, length};
 ghost use Rattle.std.proofs.lemmas.List.Edits.{sets};
 ghost use Rattle.errors.specs.Errors.{entered, is_error, line};
@@ -18,14 +20,14 @@ pub const DATA_OUT_OF_RANGE: u16 = 222;
 pub const QUEUE_OVERFLOW: u16 = 350;
 
 // The errors that wait, the oldest first, and how many they are.
-#[derive(Drop)]
+#[derive(Clone, Copy)]
 pub struct Queue {
     pub errors: [u16; 10],
     pub count: usize,
 }
 
 // The oldest error, 0 if none waits, and the queue without it.
-#[derive(Drop)]
+#[derive(Clone, Copy)]
 pub struct Taken {
     pub error: u16,
     pub queue: Queue,

@@ -1,4 +1,6 @@
 // The command lines *SAV n, *RCL n and SYSTem:ERRor? (A.3): every line has one reading.
+#![tactic(auto)]
+
 ghost use Rattle.std.specs.Prelude.{◌≡◌, ◌-◌};
 ghost use Rattle.lines.specs.Line.{all_digits, begins, is_digit, is_query, numbered, parameter, reading, spells, stands, asks};
 ghost use Rattle.lines.specs.Meaning.{capped, command_of, verb_of};
@@ -6,7 +8,7 @@ ghost use Rattle.lines.specs.Meaning.{capped, command_of, verb_of};
 use errors::{DATA_OUT_OF_RANGE, DATA_TYPE_ERROR, MISSING_PARAMETER, UNDEFINED_HEADER};
 
 // What a line asks for: a set-up saved or recalled, the oldest error; or its error, without the minus.
-#[derive(Drop)]
+#[derive(Clone, Copy)]
 pub enum Command {
     Nothing,
     Save(usize),
@@ -16,7 +18,7 @@ pub enum Command {
 }
 
 // The two commands with a number.
-#[derive(Drop)]
+#[derive(Clone, Copy)]
 enum Verb {
     Sav,
     Rcl,

@@ -15,7 +15,7 @@ use Rattle.layout.specs.declared.Shape.{Shape}
 use Rattle.layout.specs.declared.Opened.TheVariants as Opening
 use Rattle.layout.specs.Meaning.{answer, shape_of}
 use Rattle.layout.proofs.Opening.{answer-refused, open-good}
-use Rattle.log.proofs.Opening.{read_none, read_opened}
+use Rattle.pool_log.proofs.Opening.{read_none, read_opened}
 use Rattle.zones.specs.declared.Body.{Body}
 use Rattle.zones.specs.declared.Body.TheVariants.{At, Refused}
 use Rattle.zones.specs.Body.{Within, look_in, look_of}

@@ -18,7 +18,7 @@ use Rattle.layout.proofs.Range.{bounds}
 use Rattle.layout.proofs.Opening.{answer-refused, open-good}
 use Rattle.pool.specs.declared.Repaired.TheVariants.{Altered, Refused}
 use Rattle.pool.specs.Meaning.{repaired_of}
-use Rattle.log.proofs.Opening.{read_none, read_opened, read-shaped}
+use Rattle.pool_log.proofs.Opening.{read_none, read_opened, read-shaped}
 
 -- the pool opened for the shape s, and masks that every test passes
 pub record Tested (p ms : List ℕ) (s : Shape) : Type 0 where

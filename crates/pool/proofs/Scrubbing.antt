@@ -10,7 +10,7 @@ use Rattle.layout.specs.declared.Shape.{Shape}
 use Rattle.layout.specs.declared.Opened.TheVariants as Opening
 use Rattle.layout.specs.Meaning.{answer, shape_of}
 use Rattle.layout.proofs.Opening.{answer-refused, open-good}
-use Rattle.log.proofs.Opening.{read_none, read_opened}
+use Rattle.pool_log.proofs.Opening.{read_none, read_opened}
 use Rattle.scrub.specs.Counted.{Counted}
 
 module _ (p : List ℕ) where

@@ -1,10 +1,12 @@
 // The public calls of the pool. None has a `requires`: each answers for all inputs, and its contract is one equation with the definition of
 // that call, which gives the answer and every byte of the pool.
+#![tactic(auto)]
+
 ghost use Rattle.std.specs.Prelude.{◌≡◌, ℕ, ◌+◌, length};
 ghost use Rattle.rules.specs.Shape.{pool_size};
 ghost use Rattle.rules.specs.Format.{formatted, fresh_pool};
 ghost use Rattle.rules.specs.Mend.{mended, mend_header};
-ghost use Rattle.rules.specs.Repair.{repair as repairCall};
+ghost use Rattle.rules.specs.Repair.{repair as repair_call};
 ghost use Rattle.rules.specs.Look.{look as looked, part, seen};
 ghost use Rattle.rules.specs.Scrub.{scrub as scrubbed};
 ghost use Rattle.rules.specs.Tag.{look_up};
@@ -18,28 +20,28 @@ use tags::Hit;
 use zones::Body;
 
 // What format and header mending answer.
-#[derive(Drop)]
+#[derive(Clone, Copy)]
 pub enum Outcome {
     Taken,
     Refused(u8),
 }
 
 // What repair answers: how many bytes it altered; or a refusal's number.
-#[derive(Drop)]
+#[derive(Clone, Copy)]
 pub enum Repaired {
     Altered(usize),
     Refused(u8),
 }
 
 // What scrub answers: objects met, damaged ones, broken zones, columns with wrong parity; or a refusal's number.
-#[derive(Drop)]
+#[derive(Clone, Copy)]
 pub enum Scrubbed {
     Counts(usize, usize, usize, usize),
     Refused(u8),
 }
 
 // What the look-up by tag answers: an address; no object with this tag; or a refusal's number.
-#[derive(Drop)]
+#[derive(Clone, Copy)]
 pub enum Found {
     At(usize),
     Absent,
@@ -125,9 +127,9 @@ fn copy_header(pool: &mut [u8], s: Shape)
 // Rebuilds the lost pages: `lost` has one mask a column, zone by zone; bit r means row r, bit R the parity row. Answers how many bytes that
 // altered.
 pub fn repair(pool: &mut [u8], lost: &[u16]) -> Repaired
-    ensures { repaired_of result pool.new ≡ repairCall pool.old lost.now }
+    ensures { repaired_of result pool.new ≡ repair_call pool.old lost.now }
 {
-    match log::quiet(pool) {
+    match pool_log::quiet(pool) {
         Opened::Refused(n) => Repaired::Refused(n),
         Opened::Good(s) => {
             if lost.len() != s.zones * s.cols {
@@ -149,7 +151,7 @@ pub fn repair(pool: &mut [u8], lost: &[u16]) -> Repaired
 pub fn look_for(pool: &[u8], address: usize) -> Body
     ensures { (look_of result ≡ looked pool.now address) × Within pool.now result }
 {
-    match log::quiet(pool) {
+    match pool_log::quiet(pool) {
         Opened::Refused(n) => Body::Refused(n),
         Opened::Good(s) => zones::body_at(pool, s, address),
     }
@@ -179,7 +181,7 @@ pub fn look(pool: &[u8], address: usize) -> &[u8]
 pub fn look_up(pool: &[u8], tag: u32, from: usize) -> Found
     ensures { look_up_of result ≡ look_up pool.now tag from }
 {
-    match log::quiet(pool) {
+    match pool_log::quiet(pool) {
         Opened::Refused(n) => Found::Refused(n),
         Opened::Good(s) => match tags::look_up(pool, s, tag, from) {
             Hit::At(a) => Found::At(a),
@@ -193,7 +195,7 @@ pub fn look_up(pool: &[u8], tag: u32, from: usize) -> Found
 pub fn scrub(pool: &[u8]) -> Scrubbed
     ensures { scrub_of result ≡ scrubbed pool.now }
 {
-    match log::quiet(pool) {
+    match pool_log::quiet(pool) {
         Opened::Refused(n) => Scrubbed::Refused(n),
         Opened::Good(s) => {
             let c = scrub::count_pool(pool, s);

@@ -6,15 +6,12 @@ use Rattle.rules.specs.Staging as Staging
 use Rattle.rules.specs.Answer.{After, Changed, Given}
 use Rattle.rules.specs.Plan.{Call}
 use Rattle.rules.specs.Repair as Repairing
-use Rattle.rules.specs.Tag.{LookUp}
 use Rattle.rules.specs.Calls.{TransactionStart, call, transaction_start}
 use Rattle.powercut.specs.Recovery as Paper
 use Rattle.powercut.specs.Recovery.{RecoveryAfter}
 use Rattle.answers.specs.Meaning.{answer_of, value_of}
 use Rattle.record.specs.Meaning.{phase_of}
-use Rattle.pool.specs.declared.Found.{Found}
 use Rattle.pool.specs.declared.Outcome.{Outcome}
-use Rattle.pool.specs.declared.Repaired.{Repaired}
 use Rattle.pool.specs.Meaning as Pool
 use Rattle.transaction.specs.declared.Transaction as Public
 use Rattle.transaction.specs.declared.Reply as PublicReply
@@ -27,7 +24,7 @@ use Rattle.pool_c.specs.declared.transactions.Transaction.{Transaction}
 use Rattle.pool_c.specs.declared.transactions.Reply.{Reply}
 use Rattle.pool_c.specs.declared.recoveries.Recovery as C
 use Rattle.pool_c.specs.declared.recoveries.RecoveryReply.{RecoveryReply}
-use Rattle.pool_c.specs.Meaning.{Fits64, after_out, changed_out, found_out, given_in, phase_in, phase_out, recovery_after_out, recovery_in, recovery_reply_out, repair_out, repaired_out, reply_out, start_out, transaction_in}
+use Rattle.pool_c.specs.Meaning.{Fits64, after_out, changed_out, given_in, phase_in, phase_out, recovery_after_out, recovery_in, recovery_reply_out, reply_out, start_out, transaction_in}
 use Rattle.pool_c.proofs.Reading.{phase-out-in, progress-out-in, work-out-in}
 use Rattle.pool_c.proofs.Fits.{Fits, Keeps, KeepsFits, begin-fits, call_fits}
 
@@ -35,14 +32,6 @@ use Rattle.pool_c.proofs.Fits.{Fits, Keeps, KeepsFits, begin-fits, call_fits}
 
 pub changed-out : (x : Outcome) {r : ℕ} (q : List ℕ) {y : Changed} → r ≡ value_of (Pool.answer_of x) → Pool.changed x q ≡ y → (r, q) ≡ changed_out y
 changed-out x q e h = ap (λ (n : ℕ). (n, q)) e ∙ ap changed_out h
-
--- repair's answer x, told as the case y
-pub repaired-out : {x y : Repaired} (q : List ℕ) {z : Repairing.Repaired} → x ≡ y → Pool.repaired_of x q ≡ z → (repair_out (Pool.repair_of y), q) ≡ repaired_out z
-repaired-out q e h = ap (λ (x : Repaired). repaired_out (Pool.repaired_of x q)) (sym e) ∙ ap repaired_out h
-
--- the look-up's answer x, told as the case y
-pub found-out : {x y : Found} {z : LookUp} → x ≡ y → Pool.look_up_of x ≡ z → found_out (Pool.look_up_of y) ≡ found_out z
-found-out e h = ap (λ (x : Found). found_out (Pool.look_up_of x)) (sym e) ∙ ap found_out h
 
 -- ---- a transaction begun: x is what the public call hands back
 

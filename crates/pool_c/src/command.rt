@@ -11,7 +11,7 @@ use errors::Queue;
 
 // How many errors wait, and which, the oldest first.
 #[repr(C)]
-#[derive(Drop)]
+#[derive(Clone, Copy)]
 pub struct Errors {
     pub count: usize,
     pub errors: [u16; 10],
@@ -20,7 +20,7 @@ pub struct Errors {
 // What a line did: 0 nothing, 1 a set-up is staged in the transaction, 2 one lies at `value` with this length, 3 a line of this length was
 // printed; and the errors that wait then.
 #[repr(C)]
-#[derive(Drop)]
+#[derive(Clone, Copy)]
 pub struct Obeyed {
     pub kind: usize,
     pub value: usize,

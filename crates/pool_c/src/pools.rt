@@ -4,7 +4,7 @@ ghost use Rattle.rules.specs.Check.{check as check_of};
 ghost use Rattle.rules.specs.Format.{formatted};
 ghost use Rattle.rules.specs.Look.{look as looked};
 ghost use Rattle.rules.specs.Mend.{mend_header};
-ghost use Rattle.rules.specs.Repair.{repair as repairCall};
+ghost use Rattle.rules.specs.Repair.{repair as repair_call};
 ghost use Rattle.rules.specs.Scrub.{scrub as scrubbed};
 ghost use Rattle.answers.specs.Meaning.{value_of};
 ghost use Rattle.zones.specs.Body.{look_of};
@@ -16,7 +16,7 @@ use zones::Body;
 
 // How many bytes repair altered; or the refusal, and 0.
 #[repr(C)]
-#[derive(Drop)]
+#[derive(Clone, Copy)]
 pub struct Repaired {
     pub refusal: usize,
     pub altered: usize,
@@ -24,7 +24,7 @@ pub struct Repaired {
 
 // The part of the pool that holds a body; or the refusal, and zeros.
 #[repr(C)]
-#[derive(Drop)]
+#[derive(Clone, Copy)]
 pub struct Part {
     pub refusal: usize,
     pub offset: usize,
@@ -33,7 +33,7 @@ pub struct Part {
 
 // What scrub counts; or the refusal, and zeros.
 #[repr(C)]
-#[derive(Drop)]
+#[derive(Clone, Copy)]
 pub struct Counts {
     pub refusal: usize,
     pub objects: usize,
@@ -77,7 +77,7 @@ pub extern "C" fn pool_mend(pool: &mut [u8]) -> usize
 // Rebuilds the lost pages.
 #[unsafe(no_mangle)]
 pub extern "C" fn pool_repair(pool: &mut [u8], lost: &[u16]) -> Repaired
-    ensures { (result, pool.new) ≡ repaired_out (repairCall pool.old lost.now) }
+    ensures { (result, pool.new) ≡ repaired_out (repair_call pool.old lost.now) }
 {
     match pool::repair(pool, lost) {
         pool::Repaired::Refused(n) => Repaired {

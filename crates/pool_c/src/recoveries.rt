@@ -11,7 +11,7 @@ use recovery::{Progress, Remedy};
 // The id of its pool. What is to be done: 0 nothing, 1 clear both seals, 2 neither log is valid, 2n + 3 replay log A with n entries, 2n + 4 log B; and the phase:
 // 0 finished, k + 1 after k steps.
 #[repr(C)]
-#[derive(Drop)]
+#[derive(Clone, Copy)]
 pub struct Recovery {
     pub id: u64,
     pub work: usize,
@@ -20,7 +20,7 @@ pub struct Recovery {
 
 // What a call answers, and the recovery that it hands back.
 #[repr(C)]
-#[derive(Drop)]
+#[derive(Clone, Copy)]
 pub struct RecoveryReply {
     pub kind: usize,
     pub value: usize,

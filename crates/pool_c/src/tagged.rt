@@ -9,7 +9,7 @@ use crate::transactions::{Reply, encoded};
 
 // The address of an object with a tag: whether one was found, and its address; or the refusal, and zeros.
 #[repr(C)]
-#[derive(Drop)]
+#[derive(Clone, Copy)]
 pub struct Found {
     pub refusal: usize,
     pub found: usize,

@@ -13,7 +13,7 @@ use record::{Phase, Record};
 
 // The id of its pool, the entries staged, and the phase: 0 open, 1 closed, k + 2 after k steps of the commit.
 #[repr(C)]
-#[derive(Drop)]
+#[derive(Clone, Copy)]
 pub struct Transaction {
     pub id: u64,
     pub count: usize,
@@ -22,7 +22,7 @@ pub struct Transaction {
 
 // What a call answers, and the transaction that it hands back.
 #[repr(C)]
-#[derive(Drop)]
+#[derive(Clone, Copy)]
 pub struct Reply {
     pub kind: usize,
     pub value: usize,

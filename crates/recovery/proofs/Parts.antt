@@ -6,7 +6,7 @@ use Rattle.rules.specs.Shape.{Shape}
 use Rattle.powercut.specs.Log.{Log, log_at}
 use Rattle.powercut.specs.Steps.{Remedy, clear, recovery_steps, redo, replay}
 use Rattle.powercut.specs.Advance.{recovery_barrier, redo_barrier}
-use Rattle.log.specs.Targets.{read}
+use Rattle.pool_log.specs.Targets.{read}
 use Rattle.actions.specs.Parts.{PartMade}
 
 module _ (sh : Shape) (p q : List ℕ) (w : Remedy) (k r : ℕ) where

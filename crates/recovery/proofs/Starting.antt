@@ -17,7 +17,7 @@ use Rattle.layout.specs.declared.Shape.{Shape}
 use Rattle.layout.specs.declared.Opened.TheVariants as Opening
 use Rattle.layout.specs.Meaning.{Shaped, opened, shape_of}
 use Rattle.layout.proofs.Opening.{open-good, open-passed, open-refused, shaped-room}
-use Rattle.log.proofs.Targets.{loaded_word}
+use Rattle.pool_log.proofs.Targets.{loaded_word}
 use Rattle.recovery.specs.declared.Remedy.{Remedy}
 use Rattle.recovery.specs.declared.Remedy.TheVariants.{Clear, Neither, Nothing, ReplayA, ReplayB}
 use Rattle.recovery.specs.declared.Reply.{Reply}

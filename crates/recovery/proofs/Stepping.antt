@@ -32,9 +32,9 @@ use Rattle.layout.specs.declared.Opened.TheVariants as Opening
 use Rattle.layout.specs.Meaning.{InRange, Shaped, opened, shape_of}
 use Rattle.layout.proofs.Range.{shape-good}
 use Rattle.layout.proofs.Opening.{open-good, open-passed, open-refused}
-use Rattle.log.specs.Places.{LogAt}
-use Rattle.log.proofs.Targets.{loaded_word}
-use Rattle.log.proofs.Places.{log-end, log-room}
+use Rattle.pool_log.specs.Places.{LogAt}
+use Rattle.pool_log.proofs.Targets.{loaded_word}
+use Rattle.pool_log.proofs.Places.{log-end, log-room}
 use Rattle.answers.specs.Meaning as Answers
 use Rattle.actions.specs.declared.Action.{Action}
 use Rattle.actions.specs.declared.Action.TheVariants.{Barrier}

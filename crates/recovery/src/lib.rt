@@ -1,13 +1,15 @@
 // Recovery by steps (01, "Commit, cut, recovery"): its record, its start, one step, and all steps up to the next barrier. No call has a
 // `requires`: each answers for all inputs, and its contract is one equation with the definition of that call, which gives the answer, the record and
 // every byte of the pool.
+#![tactic(auto)]
+
 ghost use Rattle.std.specs.Prelude.{◌≡◌, false, ◌≤◌, get_or, length};
 ghost use Rattle.rules.specs.Shape.{entry_limit};
 ghost use Rattle.powercut.specs.Steps.{barrier, recovery_steps, remedy};
 ghost use Rattle.powercut.specs.Recovery.{count_above, impossible_recovery, recovery_on, recovery_start, recovery_step};
 ghost use Rattle.powercut.specs.Advance.{recovery_barrier};
 ghost use Rattle.layout.specs.Meaning.{Shaped, shape_of};
-ghost use Rattle.log.specs.Places.{LogAt};
+ghost use Rattle.pool_log.specs.Places.{LogAt};
 ghost use Rattle.actions.specs.Actions.{Computed, action_of};
 ghost use Rattle.actions.specs.Parts.{PartMade};
 ghost use Rattle.recovery.specs.Meaning.{after_of, progress_of, recovery_of, remedy_of};
@@ -18,7 +20,7 @@ use answers::Answer;
 use layout::{Opened, Shape};
 
 // What is to be done: log A or log B, with its count, replayed; both seals cleared; nothing; or neither log is valid and no seal zero.
-#[derive(Drop)]
+#[derive(Clone, Copy)]
 pub enum Remedy {
     ReplayA(usize),
     ReplayB(usize),
@@ -28,14 +30,14 @@ pub enum Remedy {
 }
 
 // The steps made so far, or all made.
-#[derive(Drop)]
+#[derive(Clone, Copy)]
 pub enum Progress {
     Recovering(usize),
     Finished,
 }
 
 // The record that goes from call to call, with the id of the pool that it was begun on.
-#[derive(Drop)]
+#[derive(Clone, Copy)]
 pub struct Recovery {
     pub id: u64,
     pub work: Remedy,
@@ -43,14 +45,14 @@ pub struct Recovery {
 }
 
 // What a call answers, with the record that it hands back.
-#[derive(Drop)]
+#[derive(Clone, Copy)]
 pub struct Reply {
     pub answer: Answer,
     pub recovery: Recovery,
 }
 
 // How a call finds the record: k steps are made and there is a next one; or it is refused.
-#[derive(Drop)]
+#[derive(Clone, Copy)]
 enum Found {
     At(usize),
     Refused(u8),
@@ -103,11 +105,11 @@ fn find(s: Shape, pool: &[u8]) -> Remedy
     let at_b = s.log_b();
     let a = words::load64(pool, at_a);
     let b = words::load64(pool, at_b);
-    if log::valid(s, pool, at_a) {
-        return Remedy::ReplayA(log::count(a));
+    if pool_log::valid(s, pool, at_a) {
+        return Remedy::ReplayA(pool_log::count(a));
     }
-    if log::valid(s, pool, at_b) {
-        return Remedy::ReplayB(log::count(b));
+    if pool_log::valid(s, pool, at_b) {
+        return Remedy::ReplayB(pool_log::count(b));
     }
     if a == 0 {
         if b == 0 {
@@ -286,8 +288,8 @@ fn lost(s: Shape, pool: &[u8], b: usize, n: usize, k: usize) -> bool
     if 2 * n + 2 <= k {
         return false;
     }
-    if log::valid(s, pool, b) {
-        return log::count(words::load64(pool, b)) != n;
+    if pool_log::valid(s, pool, b) {
+        return pool_log::count(words::load64(pool, b)) != n;
     }
     true
 }

@@ -1,9 +1,11 @@
 // Callers of the transaction's and the recovery's calls, proved from the contracts of these alone: a commit made step after step or part after part, an object
 // saved, one allocated and freed again, and a recovery driven to its end. No function has a `requires`.
+#![tactic(auto)]
+
 ghost use Rattle.std.specs.Prelude.{◌≡◌};
 ghost use Rattle.answers.specs.Meaning.{answer_of};
 ghost use Rattle.transaction.specs.Meaning.{after_of, given_of};
-ghost use Rattle.recovery.specs.Meaning.{after_of as recoveredOf};
+ghost use Rattle.recovery.specs.Meaning.{after_of as recovered_of};
 ghost use Rattle.powercut.specs.Commit.{commit_step};
 ghost use Rattle.saving.specs.Saving.{calls_from, committed, is_done, is_end, Saves};
 ghost use Rattle.saving.specs.Meaning.{outcome_of};
@@ -121,7 +123,7 @@ pub fn take_back(pool: &[u8], staging: &mut [u8], tag: u32, body: &[u8]) -> Repl
 
 // Recovers the pool, part after part: no recovery has more than three. What the last call answered and handed back.
 pub fn recover(pool: &mut [u8]) -> recovery::Reply
-    ensures { Recovers pool.old (recoveredOf result pool.new) }
+    ensures { Recovers pool.old (recovered_of result pool.new) }
 {
     let mut r = Recovery::start(pool);
     let mut parts = 3usize;

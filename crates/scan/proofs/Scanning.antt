@@ -23,7 +23,7 @@ use Rattle.layout.specs.declared.Opened.TheVariants as Opening
 use Rattle.layout.specs.Meaning.{InRange, Shaped, answer, shape_of}
 use Rattle.layout.proofs.Range.{bounds}
 use Rattle.layout.proofs.Opening.{answer-refused, open-good}
-use Rattle.log.proofs.Opening.{read_none, read_opened}
+use Rattle.pool_log.proofs.Opening.{read_none, read_opened}
 use Rattle.totals.specs.Totalled.{LinesTotalled}
 use Rattle.texts.specs.Put.{Put, between_text, pair_text}
 use Rattle.texts.proofs.Put.{put_as, put_then}

@@ -1,4 +1,6 @@
 // The text that poolscan prints (01, "Bench examples"; A.7), put into a buffer.
+#![tactic(auto)]
+
 ghost use Rattle.std.specs.Prelude.{◌≡◌, [], ◌+◌, ◌*◌, ◌%◌, ◌<◌, ◌≤◌, length};
 ghost use Rattle.std.proofs.lemmas.List.Edits.{sets};
 ghost use Rattle.rules.specs.Runs.{free};
@@ -17,7 +19,7 @@ use runs::Zone;
 use totals::Totals;
 
 // A line that was put: the place behind it, and the run's cells, 0 where the zone is broken there, and whether it is free.
-#[derive(Drop)]
+#[derive(Clone, Copy)]
 struct Line {
     end: usize,
     cells: usize,
@@ -193,7 +195,7 @@ pub fn text(pool: &[u8], out: &mut [u8]) -> usize
     if 65536 < pool.len() {
         return texts::put_between(out, 0, b"(refused ", 2, b")\n");
     }
-    match log::quiet(pool) {
+    match pool_log::quiet(pool) {
         Opened::Refused(n) => texts::put_between(out, 0, b"(refused ", n as usize, b")\n"),
         Opened::Good(s) => put_pool(pool, out, s),
     }

@@ -1,5 +1,7 @@
 // Set-ups 0 to 9 behind *SAV and *RCL (A.1), over the pool's public calls and proved from the contracts of these alone: it reads no byte of the
 // pool by itself. No function has a `requires`: each answers for all inputs.
+#![tactic(auto)]
+
 ghost use Rattle.std.specs.Prelude.{◌≡◌, ℕ, ◌+◌};
 ghost use Rattle.rules.specs.Look.{part, seen};
 ghost use Rattle.answers.specs.Meaning.{answer_of};
@@ -19,7 +21,7 @@ use zones::Body;
 const SIZE: usize = 120;
 
 // The object of a set-up: its address, and where its body lies; none; or a refusal's number.
-#[derive(Drop)]
+#[derive(Clone, Copy)]
 enum Setup {
     At(usize, usize),
     Absent,

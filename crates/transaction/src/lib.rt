@@ -1,6 +1,8 @@
 // The transaction (01, "Transactions"; "Commit, cut, recovery"): it goes in by value, and each call hands it back. Its entries lie in lent staging memory. No
 // function has a `requires`: each answers for all inputs, and its contract is one equation with the definition of that call, which gives
 // the answer and every byte of pool, staging and record.
+#![tactic(auto)]
+
 ghost use Rattle.std.specs.Prelude.{◌≡◌};
 ghost use Rattle.rules.specs.Plan.{allocate as Allocate, release, write as Write};
 ghost use Rattle.rules.specs.Calls.{call, transaction_start};
@@ -13,13 +15,13 @@ use layout::Opened;
 use record::{Record, Verdict};
 
 // A transaction is its record.
-#[derive(Drop)]
+#[derive(Clone, Copy)]
 pub struct Transaction {
     pub txn: Record,
 }
 
 // What a call answers, and the transaction that it hands back.
-#[derive(Drop)]
+#[derive(Clone, Copy)]
 pub struct Reply {
     pub answer: Answer,
     pub transaction: Transaction,
@@ -69,7 +71,7 @@ impl Transaction {
     pub fn begin(pool: &[u8]) -> Reply
         ensures { start_of result ≡ transaction_start pool.now }
     {
-        match log::quiet(pool) {
+        match pool_log::quiet(pool) {
             Opened::Refused(n) => refused(Record::unusable(), n),
             Opened::Good(_) => {
                 let txn = Record::fresh(layout::id(pool));

@@ -2,6 +2,8 @@
 // several subsets of the stores since the last barrier: none, all, every other one, each one alone, all but each one. After each cut the pool
 // is recovered, the object looked for and the pool scrubbed. What is printed is compared with `stdout`, which was worked out apart from this
 // code.
+#![tactic(auto)]
+
 mod memory; // stores kept or lost by a cut
 mod table; // counts in rows
 
@@ -9,6 +11,7 @@ use crate::memory::{copy, lay, noted};
 use crate::table::{Table, Tally, entered, heading, more, none, row, sum, total};
 use answers::{Answer, kind};
 use pool::Scrubbed;
+use std::io;
 use transaction::Transaction;
 
 // The body of the object that is saved: a whole cell with its head.
@@ -75,7 +78,7 @@ fn cuts(cut: &mut [u8], base: &[u8], pool: &[u8], places: &[usize], n: usize) ->
 }
 
 // Stages the object and starts its commit.
-fn begin(pool: &[u8], staging: &mut [u8]) -> State {
+fn begin(rt: &impl Print, pool: &[u8], staging: &mut [u8]) -> io::Result<State> {
     let r = Transaction::begin(pool);
     let t = r.transaction;
     let r = t.allocate(pool, staging, 5, &BODY);
@@ -87,12 +90,12 @@ fn begin(pool: &[u8], staging: &mut [u8]) -> State {
         stores: 0,
         barrier: true,
     };
-    let table = heading();
-    State { moment, table }
+    let table = heading(rt)?;
+    Ok(State { moment, table })
 }
 
 // The commit after some steps: its transaction, the stores since the last barrier, and whether the last step was a barrier.
-#[derive(Drop)]
+#[derive(Clone, Copy)]
 struct Moment {
     transaction: Transaction,
     stores: usize,
@@ -123,7 +126,7 @@ fn advance(
 }
 
 // The commit and the table so far.
-#[derive(Drop)]
+#[derive(Clone, Copy)]
 struct State {
     moment: Moment,
     table: Table,
@@ -131,47 +134,49 @@ struct State {
 
 // The cuts before the next step; then the step.
 fn turn(
+    rt: &impl Print,
     s: State,
     pool: &mut [u8],
     base: &mut [u8],
     spare: &mut [u8],
     places: &mut [usize],
     staging: &[u8],
-) -> State {
+) -> io::Result<State> {
     let m = s.moment;
     let now = cuts(spare, base, pool, places, m.stores);
     let moment = advance(m, pool, base, spare, places, staging);
     let table = s.table;
-    let table = entered(table, now, moment.barrier);
-    State { moment, table }
+    let table = entered(rt, table, now, moment.barrier)?;
+    Ok(State { moment, table })
 }
 
 // The commit of 10 entries has 69 steps.
 fn steps(
+    rt: &impl Print,
     s: State,
     pool: &mut [u8],
     base: &mut [u8],
     spare: &mut [u8],
     places: &mut [usize],
     staging: &[u8],
-) -> State {
+) -> io::Result<State> {
     let mut s = s;
     let mut k = 0usize;
     while k < 69 {
-        s = turn(s, pool, base, spare, places, staging);
+        s = turn(rt, s, pool, base, spare, places, staging)?;
         k += 1;
     }
-    s
+    Ok(s)
 }
 
 // The last two rows.
-fn ending(s: State, now: Tally) {
+fn ending(rt: &impl Print, s: State, now: Tally) -> io::Result<()> {
     let t = s.table;
-    row(b"committed ", t.made, t.made, now);
-    row(b"total     ", 0, t.made, total(t.all, now));
+    row(rt, b"committed ", t.made, t.made, now)?;
+    row(rt, b"total     ", 0, t.made, total(t.all, now))
 }
 
-fn main() {
+fn main(rt: HostRuntime) -> io::Result<()> {
     let mut pool = [0u8; 5120];
     let mut base = [0u8; 5120];
     let mut spare = [0u8; 5120];
@@ -179,7 +184,15 @@ fn main() {
     let mut places = [0usize; 40];
     pool::format(&mut pool, 1, 1, 1, 1);
     copy(&mut base, &pool);
-    let s = begin(&pool, &mut staging);
-    let s = steps(s, &mut pool, &mut base, &mut spare, &mut places, &staging);
-    ending(s, cuts(&mut spare, &base, &pool, &places, 0));
+    let s = begin(&rt, &pool, &mut staging)?;
+    let s = steps(
+        &rt,
+        s,
+        &mut pool,
+        &mut base,
+        &mut spare,
+        &mut places,
+        &staging,
+    )?;
+    ending(&rt, s, cuts(&mut spare, &base, &pool, &places, 0))
 }

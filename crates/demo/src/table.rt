@@ -1,8 +1,8 @@
 // The table that the program `demo` prints: a row for each part of a commit, with what was counted over the power cuts in it.
-use libc::STDOUT_FILENO;
+use std::io;
 
 // What was counted over the cuts of one part of the commit.
-#[derive(Drop)]
+#[derive(Clone, Copy)]
 pub struct Tally {
     pub cuts: usize,
     pub old: usize,
@@ -50,59 +50,55 @@ pub fn total(a: Tally, b: Tally) -> Tally {
 }
 
 // A number, right-aligned.
-fn column(n: usize) {
-    io::write_all(STDOUT_FILENO, b"   ");
+fn column(rt: &impl Print, n: usize) -> io::Result<()> {
+    rt.write_all(b"   ")?;
     if n < 1000 {
-        io::write_all(STDOUT_FILENO, b" ");
+        rt.write_all(b" ")?;
     }
     if n < 100 {
-        io::write_all(STDOUT_FILENO, b" ");
+        rt.write_all(b" ")?;
     }
     if n < 10 {
-        io::write_all(STDOUT_FILENO, b" ");
+        rt.write_all(b" ")?;
     }
-    io::print_decimal(STDOUT_FILENO, n as u64);
+    rt.print(n)
 }
 
-fn counts(t: Tally) {
-    column(t.cuts);
-    column(t.old);
-    column(t.new);
-    column(t.done);
-    column(t.clean);
+fn counts(rt: &impl Print, t: Tally) -> io::Result<()> {
+    column(rt, t.cuts)?;
+    column(rt, t.old)?;
+    column(rt, t.new)?;
+    column(rt, t.done)?;
+    column(rt, t.clean)
 }
 
-pub fn row(name: &[u8], from: usize, to: usize, t: Tally) {
-    io::write_all(STDOUT_FILENO, name);
-    column(from);
-    column(to);
-    counts(t);
-    io::write_all(STDOUT_FILENO, b"\n");
+pub fn row(rt: &impl Print, name: &[u8], from: usize, to: usize, t: Tally) -> io::Result<()> {
+    rt.write_all(name)?;
+    column(rt, from)?;
+    column(rt, to)?;
+    counts(rt, t)?;
+    rt.write_all(b"\n")
 }
 
 // The row of a part of the commit, numbered from 0.
-fn part(i: usize, from: usize, to: usize, t: Tally) {
+fn part(rt: &impl Print, i: usize, from: usize, to: usize, t: Tally) -> io::Result<()> {
     if i == 0 {
-        row(b"1 entries ", from, to, t);
-        return;
+        return row(rt, b"1 entries ", from, to, t);
     }
     if i == 1 {
-        row(b"2 seals   ", from, to, t);
-        return;
+        return row(rt, b"2 seals   ", from, to, t);
     }
     if i == 2 {
-        row(b"3 data    ", from, to, t);
-        return;
+        return row(rt, b"3 data    ", from, to, t);
     }
     if i == 3 {
-        row(b"4 parity  ", from, to, t);
-        return;
+        return row(rt, b"4 parity  ", from, to, t);
     }
-    row(b"5 clearing", from, to, t);
+    row(rt, b"5 clearing", from, to, t)
 }
 
 // The table so far: the rows printed, the steps made up to the last row and by now, the counts since that row and in all.
-#[derive(Drop)]
+#[derive(Clone, Copy)]
 pub struct Table {
     pub rows: usize,
     pub from: usize,
@@ -112,39 +108,36 @@ pub struct Table {
 }
 
 // The counts before one more step entered; at a barrier the row of the part that it ends is printed.
-pub fn entered(t: Table, now: Tally, barrier: bool) -> Table {
+pub fn entered(rt: &impl Print, t: Table, now: Tally, barrier: bool) -> io::Result<Table> {
     let tally = total(t.tally, now);
     let all = total(t.all, now);
     let made = sum(t.made, 1);
     if barrier {
-        part(t.rows, t.from, t.made, tally);
-        return Table {
+        part(rt, t.rows, t.from, t.made, tally)?;
+        return Ok(Table {
             rows: sum(t.rows, 1),
             from: made,
             made,
             tally: none(),
             all,
-        };
+        });
     }
-    Table {
+    Ok(Table {
         rows: t.rows,
         from: t.from,
         made,
         tally,
         all,
-    }
+    })
 }
 
-pub fn heading() -> Table {
-    io::write_all(
-        STDOUT_FILENO,
-        b"part        from     to   cuts    old    new   done  clean\n",
-    );
-    Table {
+pub fn heading(rt: &impl Print) -> io::Result<Table> {
+    rt.write_all(b"part        from     to   cuts    old    new   done  clean\n")?;
+    Ok(Table {
         rows: 0,
         from: 0,
         made: 0,
         tally: none(),
         all: none(),
-    }
+    })
 }

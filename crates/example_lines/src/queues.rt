@@ -1,42 +1,43 @@
 // Errors entered and asked for, by command lines on a pool that is not there.
 use commands::Done;
 use errors::Queue;
-use libc::STDOUT_FILENO;
+use std::io;
 
-fn printed(done: Done, out: &[u8]) {
+fn printed(rt: &impl Print, done: Done, out: &[u8]) -> io::Result<()> {
     match done {
         Done::Printed(n) => {
             if n <= out.len() {
-                io::write_all(STDOUT_FILENO, &out[0..n]);
+                rt.write_all(&out[0..n])?;
             }
         }
         Done::Nothing => {}
         Done::Saving(_) => {}
         Done::Recalled(_, _) => {}
     }
+    Ok(())
 }
 
 // Obeys a line, and prints what it prints; the queue then.
-fn obey(line: &[u8], queue: Queue) -> Queue {
+fn obey(rt: &impl Print, line: &[u8], queue: Queue) -> io::Result<Queue> {
     let setup = [0u8; 120];
     let pool = [0u8; 0];
     let mut staging = [0u8; 0];
     let mut out = [0u8; 32];
     let obeyed = commands::obey(line, &setup, queue, &pool, &mut staging, &mut out);
     let done = obeyed.done;
-    printed(done, &out);
-    obeyed.queue
+    printed(rt, done, &out)?;
+    Ok(obeyed.queue)
 }
 
 // The same line eleven times.
-fn eleven(line: &[u8], queue: Queue) -> Queue {
+fn eleven(rt: &impl Print, line: &[u8], queue: Queue) -> io::Result<Queue> {
     let mut q = queue;
     let mut turns = 11usize;
     while turns > 0 {
-        q = obey(line, q);
+        q = obey(rt, line, q)?;
         turns -= 1;
     }
-    q
+    Ok(q)
 }
 
 fn empty() -> Queue {
@@ -47,13 +48,14 @@ fn empty() -> Queue {
 }
 
 // Eleven errors, and eleven queries.
-pub fn overflow() {
-    let full = eleven(b"*IDN?", empty());
-    eleven(b"SYST:ERR?", full);
+pub fn overflow(rt: &impl Print) -> io::Result<()> {
+    let full = eleven(rt, b"*IDN?", empty())?;
+    eleven(rt, b"SYST:ERR?", full)?;
+    Ok(())
 }
 
 // Eleven errors, and one that is none of the six: both queues count as empty, and an error then stands first.
-pub fn unfit() {
+pub fn unfit(rt: &impl Print) -> io::Result<()> {
     let many = Queue {
         errors: [113u16; 10],
         count: 11,
@@ -62,8 +64,9 @@ pub fn unfit() {
         errors: [999u16; 10],
         count: 1,
     };
-    obey(b"SYST:ERR?", many);
-    obey(b"SYST:ERR?", other);
-    let entered = obey(b"*RCL 3", other);
-    obey(b"SYST:ERR?", entered);
+    obey(rt, b"SYST:ERR?", many)?;
+    obey(rt, b"SYST:ERR?", other)?;
+    let entered = obey(rt, b"*RCL 3", other)?;
+    obey(rt, b"SYST:ERR?", entered)?;
+    Ok(())
 }

@@ -1,92 +1,83 @@
 // Lines, and what they ask for.
-use libc::STDOUT_FILENO;
 use lines::Command;
+use std::io;
 
-fn number(word: &[u8], n: u64) {
-    io::write_all(STDOUT_FILENO, word);
-    io::print_decimal(STDOUT_FILENO, n);
+fn number(rt: &impl Print, word: &[u8], n: u64) -> io::Result<()> {
+    rt.write_all(word)?;
+    rt.print(n)
 }
 
-fn asked(c: Command) {
+fn asked(rt: &impl Print, c: Command) -> io::Result<()> {
     match c {
-        Command::Nothing => {
-            io::write_all(STDOUT_FILENO, b"nothing");
-        }
-        Command::Save(n) => {
-            number(b"save ", n as u64);
-        }
-        Command::Recall(n) => {
-            number(b"recall ", n as u64);
-        }
-        Command::Query => {
-            io::write_all(STDOUT_FILENO, b"query");
-        }
-        Command::Fault(e) => {
-            number(b"-", e as u64);
-        }
+        Command::Nothing => rt.write_all(b"nothing"),
+        Command::Save(n) => number(rt, b"save ", n as u64),
+        Command::Recall(n) => number(rt, b"recall ", n as u64),
+        Command::Query => rt.write_all(b"query"),
+        Command::Fault(e) => number(rt, b"-", e as u64),
     }
 }
 
 // The line between bars, and its reading.
-fn reading(line: &[u8]) {
-    io::write_all(STDOUT_FILENO, b"|");
-    io::write_all(STDOUT_FILENO, line);
-    io::write_all(STDOUT_FILENO, b"| ");
-    asked(lines::read(line));
-    io::write_all(STDOUT_FILENO, b"\n");
+fn reading(rt: &impl Print, line: &[u8]) -> io::Result<()> {
+    rt.write_all(b"|")?;
+    rt.write_all(line)?;
+    rt.write_all(b"| ")?;
+    asked(rt, lines::read(line))?;
+    rt.write_all(b"\n")
 }
 
 // A line of `n` bytes that recalls 5, with zeros before it.
-fn zeros(n: usize) {
+fn zeros(rt: &impl Print, n: usize) -> io::Result<()> {
     let mut line =
         *b"*RCL 0000000000000000000000000000000000000000000000000000000000000000000000000000";
     if 0 < n {
         if n <= 81 {
             line[n - 1] = b'5';
-            reading(&line[0..n]);
+            reading(rt, &line[0..n])?;
         }
     }
+    Ok(())
 }
 
-pub fn commands() {
-    reading(b"");
-    reading(b"*SAV 3");
-    reading(b"*sAv 003");
-    reading(b"*rcl 0");
-    reading(b"*RCL 9");
-    zeros(80);
-    zeros(81);
+pub fn commands(rt: &impl Print) -> io::Result<()> {
+    reading(rt, b"")?;
+    reading(rt, b"*SAV 3")?;
+    reading(rt, b"*sAv 003")?;
+    reading(rt, b"*rcl 0")?;
+    reading(rt, b"*RCL 9")?;
+    zeros(rt, 80)?;
+    zeros(rt, 81)
 }
 
-pub fn errors() {
-    reading(b"*SAV");
-    reading(b"*SAV ");
-    reading(b"*SAV  3");
-    reading(b"*SAV 3 ");
-    reading(b"*SAV -1");
-    reading(b"*SAV 12a");
-    reading(b"*SAV 3\r");
-    reading(b"*RCL 10");
-    reading(b"*SAV 99999999999999999999");
+pub fn errors(rt: &impl Print) -> io::Result<()> {
+    reading(rt, b"*SAV")?;
+    reading(rt, b"*SAV ")?;
+    reading(rt, b"*SAV  3")?;
+    reading(rt, b"*SAV 3 ")?;
+    reading(rt, b"*SAV -1")?;
+    reading(rt, b"*SAV 12a")?;
+    reading(rt, b"*SAV 3\r")?;
+    reading(rt, b"*RCL 10")?;
+    reading(rt, b"*SAV 99999999999999999999")
 }
 
-pub fn undefined() {
-    reading(b"*SAV3");
-    reading(b"*SAVE 3");
-    reading(b" *SAV 3");
-    reading(b" ");
-    reading(b"JSAV 3");
-    reading(b"*SAV\t3");
-    reading(b"SYSTZERR_");
-    reading(b"SYSTE:ERR?");
-    reading(b":SYST:ERR?");
-    reading(b"SYST:ERR");
-    reading(b"SYST:ERR? ");
+pub fn undefined(rt: &impl Print) -> io::Result<()> {
+    reading(rt, b"*SAV3")?;
+    reading(rt, b"*SAVE 3")?;
+    reading(rt, b" *SAV 3")?;
+    reading(rt, b" ")?;
+    reading(rt, b"JSAV 3")?;
+    reading(rt, b"*SAV\t3")?;
+    reading(rt, b"SYSTZERR_")?;
+    reading(rt, b"SYSTE:ERR?")?;
+    reading(rt, b":SYST:ERR?")?;
+    reading(rt, b"SYST:ERR")?;
+    reading(rt, b"SYST:ERR? ")
 }
 
-pub fn queries() {
-    reading(b"SYST:ERR?");
-    reading(b"system:error?");
-    reading(b"SYSTem:ERR?");
-    reading(b"SYST:ERROR?");
+pub fn queries(rt: &impl Print) -> io::Result<()> {
+    reading(rt, b"SYST:ERR?")?;
+    reading(rt, b"system:error?")?;
+    reading(rt, b"SYSTem:ERR?")?;
+    reading(rt, b"SYST:ERROR?")
 }

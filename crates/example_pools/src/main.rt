@@ -1,7 +1,11 @@
 // What a call answers on a transaction or a recovery of another pool: A and B, R 2, C 2, Z 1, have the ids 1 and 2; S, R 1, C 1, Z 1, has the
 // id 3. What is printed is compared with the stored values in `stdout`, which were worked out apart from this code.
+#![tactic(auto)]
+
 mod transactions; // begun on A and offered to B and S
 mod recoveries; // begun on A and offered to B
+
+use std::io;
 
 // Sets seal A to a number that no log has.
 fn seal(p: &mut [u8]) {
@@ -10,39 +14,39 @@ fn seal(p: &mut [u8]) {
     }
 }
 
-fn on_transactions(a: &mut [u8], b: &mut [u8], small: &[u8]) {
+fn on_transactions(rt: &impl Print, a: &mut [u8], b: &mut [u8], small: &[u8]) -> io::Result<()> {
     let mut staging = [7u8; 2032];
-    let t = transactions::stages(a, b, small, &mut staging);
-    transactions::commits(t, a, b, &staging);
+    let t = transactions::stages(rt, a, b, small, &mut staging)?;
+    transactions::commits(rt, t, a, b, &staging)?;
     seal(b);
-    transactions::begins(a, b, &mut staging);
-    transactions::after(a, b, &mut staging);
+    transactions::begins(rt, a, b, &mut staging)?;
+    transactions::after(rt, a, b, &mut staging)
 }
 
 // Refusals 9 and 10 stand before 11.
-fn on_limits(a: &[u8], b: &[u8], small: &[u8]) {
+fn on_limits(rt: &impl Print, a: &[u8], b: &[u8], small: &[u8]) -> io::Result<()> {
     let mut staging = [7u8; 2032];
-    transactions::before(a, b, small, &mut staging);
-    transactions::many(b, &mut staging);
+    transactions::before(rt, a, b, small, &mut staging)?;
+    transactions::many(rt, b, &mut staging)
 }
 
-fn on_recoveries(a: &mut [u8], b: &mut [u8], other: &mut [u8]) {
+fn on_recoveries(rt: &impl Print, a: &mut [u8], b: &mut [u8], other: &mut [u8]) -> io::Result<()> {
     let mut staging = [7u8; 2032];
-    recoveries::cuts(a, &mut staging);
+    recoveries::cuts(rt, a, &mut staging)?;
     recoveries::copy_with_headers(other, a, b);
-    let r = recoveries::offers(a, b, other);
-    recoveries::replays(r, a, b);
+    let r = recoveries::offers(rt, a, b, other)?;
+    recoveries::replays(rt, r, a, b)
 }
 
 // Nothing to do; then one seal set, and no valid log.
-fn on_seals(a: &mut [u8], b: &mut [u8]) {
+fn on_seals(rt: &impl Print, a: &mut [u8], b: &mut [u8]) -> io::Result<()> {
     pool::format(a, 2, 2, 1, 1);
-    recoveries::offer(b"finished recovery of A: ", a, b);
+    recoveries::offer(rt, b"finished recovery of A: ", a, b)?;
     seal(a);
-    recoveries::offer(b"clearing recovery of A: ", a, b);
+    recoveries::offer(rt, b"clearing recovery of A: ", a, b)
 }
 
-fn main() {
+fn main(rt: HostRuntime) -> io::Result<()> {
     let mut a = [0u8; 6144];
     let mut b = [0u8; 6144];
     let mut small = [0u8; 5120];
@@ -50,9 +54,9 @@ fn main() {
     pool::format(&mut a, 2, 2, 1, 1);
     pool::format(&mut b, 2, 2, 1, 2);
     pool::format(&mut small, 1, 1, 1, 3);
-    on_transactions(&mut a, &mut b, &small);
+    on_transactions(&rt, &mut a, &mut b, &small)?;
     pool::format(&mut b, 2, 2, 1, 2);
-    on_limits(&a, &b, &small);
-    on_recoveries(&mut a, &mut b, &mut other);
-    on_seals(&mut a, &mut b);
+    on_limits(&rt, &a, &b, &small)?;
+    on_recoveries(&rt, &mut a, &mut b, &mut other)?;
+    on_seals(&rt, &mut a, &mut b)
 }

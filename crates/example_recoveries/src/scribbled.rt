@@ -2,6 +2,7 @@
 // kept; then recovery goes on to its end. The object must be there if the other log's seal was stored: log A's by step 42, log B's by step 43.
 use crate::recover;
 use examples::report::{check, told};
+use std::io;
 use transaction::Reply;
 
 // The start of that commit.
@@ -13,12 +14,12 @@ fn start(p: &[u8], s: &mut [u8]) -> Reply {
 }
 
 // That commit on a fresh pool, up to its cut after `n` steps.
-fn cut(p: &mut [u8], n: usize) {
+fn cut(rt: &impl Print, p: &mut [u8], n: usize) -> io::Result<()> {
     let mut staging = [7u8; 2032];
     pool::format(p, 2, 2, 1, 1);
     let r = start(p, &mut staging);
     saving::steps(r, p, &staging, n);
-    told(b"cut after ", n);
+    told(rt, b"cut after ", n)
 }
 
 // The eight pages from `at` on become bytes `b`.
@@ -38,63 +39,63 @@ fn turn(p: &mut [u8], at: usize) {
 }
 
 // Recovery to its end: its steps, the object, and the pool's check.
-fn ends(name: &[u8], p: &mut [u8]) {
-    recover(name, p);
-    examples::report::body(b"  look: ", p, 0);
-    check(b"  check of that pool: ", p, 6144);
+fn ends(rt: &impl Print, name: &[u8], p: &mut [u8]) -> io::Result<()> {
+    recover(rt, name, p)?;
+    examples::report::body(rt, b"  look: ", p, 0)?;
+    check(rt, b"  check of that pool: ", p, 6144)
 }
 
-fn log_a(p: &mut [u8], n: usize) {
-    cut(p, n);
+fn log_a(rt: &impl Print, p: &mut [u8], n: usize) -> io::Result<()> {
+    cut(rt, p, n)?;
     fill(p, 512, 255);
-    ends(b" steps, log A all ff: ", p);
+    ends(rt, b" steps, log A all ff: ", p)
 }
 
-fn log_b(p: &mut [u8], n: usize) {
-    cut(p, n);
+fn log_b(rt: &impl Print, p: &mut [u8], n: usize) -> io::Result<()> {
+    cut(rt, p, n)?;
     fill(p, 2560, 255);
-    ends(b" steps, log B all ff: ", p);
+    ends(rt, b" steps, log B all ff: ", p)
 }
 
 // Seal A alone is stored: all 00, and the lowest bit of the first entry's word turned.
-fn log_a_otherwise(p: &mut [u8]) {
-    cut(p, 42);
+fn log_a_otherwise(rt: &impl Print, p: &mut [u8]) -> io::Result<()> {
+    cut(rt, p, 42)?;
     fill(p, 512, 0);
-    ends(b" steps, log A all 00: ", p);
-    cut(p, 42);
+    ends(rt, b" steps, log A all 00: ", p)?;
+    cut(rt, p, 42)?;
     turn(p, 536);
-    ends(b" steps, a bit of an entry of log A turned: ", p);
+    ends(rt, b" steps, a bit of an entry of log A turned: ", p)
 }
 
 // Seal A is cleared again.
-fn log_b_otherwise(p: &mut [u8]) {
-    cut(p, 67);
+fn log_b_otherwise(rt: &impl Print, p: &mut [u8]) -> io::Result<()> {
+    cut(rt, p, 67)?;
     fill(p, 2560, 0);
-    ends(b" steps, log B all 00: ", p);
+    ends(rt, b" steps, log B all 00: ", p)
 }
 
 // Before both seals are stored.
-fn early(p: &mut [u8]) {
-    log_a(p, 41);
-    log_a(p, 42);
-    log_a_otherwise(p);
-    log_b(p, 42);
+fn early(rt: &impl Print, p: &mut [u8]) -> io::Result<()> {
+    log_a(rt, p, 41)?;
+    log_a(rt, p, 42)?;
+    log_a_otherwise(rt, p)?;
+    log_b(rt, p, 42)
 }
 
 // Both seals stored; in the middle of the data; A cleared; both cleared.
-fn late(p: &mut [u8]) {
-    log_a(p, 43);
-    log_b(p, 43);
-    log_a(p, 50);
-    log_b(p, 50);
-    log_a(p, 67);
-    log_b(p, 67);
-    log_b_otherwise(p);
-    log_a(p, 69);
-    log_b(p, 69);
+fn late(rt: &impl Print, p: &mut [u8]) -> io::Result<()> {
+    log_a(rt, p, 43)?;
+    log_b(rt, p, 43)?;
+    log_a(rt, p, 50)?;
+    log_b(rt, p, 50)?;
+    log_a(rt, p, 67)?;
+    log_b(rt, p, 67)?;
+    log_b_otherwise(rt, p)?;
+    log_a(rt, p, 69)?;
+    log_b(rt, p, 69)
 }
 
-pub fn cases(p: &mut [u8]) {
-    early(p);
-    late(p);
+pub fn cases(rt: &impl Print, p: &mut [u8]) -> io::Result<()> {
+    early(rt, p)?;
+    late(rt, p)
 }

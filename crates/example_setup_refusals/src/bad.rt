@@ -2,53 +2,56 @@
 use crate::calls::{change, look_up};
 use examples::report::told;
 use examples::saves::{keep, recall, setup};
-use libc::STDOUT_FILENO;
+use std::io;
 
 // What is given to a save, and its answer.
-fn offer(p: &[u8], s: &mut [u8], n: usize, body: &[u8]) {
-    told(b"save ", n);
-    told(b", body ", body.len());
-    told(b", staging ", s.len());
-    examples::calls::say(b": ", setups::save(p, s, n, body));
+fn offer(rt: &impl Print, p: &[u8], s: &mut [u8], n: usize, body: &[u8]) -> io::Result<()> {
+    told(rt, b"save ", n)?;
+    told(rt, b", body ", body.len())?;
+    told(rt, b", staging ", s.len())?;
+    examples::calls::say(rt, b": ", setups::save(p, s, n, body))?;
+    Ok(())
 }
 
-fn numbers(p: &[u8], s: &mut [u8]) {
+fn numbers(rt: &impl Print, p: &[u8], s: &mut [u8]) -> io::Result<()> {
     let body = setup(3);
-    offer(p, &mut s[0..0], 10, b"");
-    offer(p, s, usize::MAX, &body);
-    recall(p, usize::MAX);
+    offer(rt, p, &mut s[0..0], 10, b"")?;
+    offer(rt, p, s, usize::MAX, &body)?;
+    recall(rt, p, usize::MAX)
 }
 
-fn bodies(p: &[u8], s: &mut [u8]) {
+fn bodies(rt: &impl Print, p: &[u8], s: &mut [u8]) -> io::Result<()> {
     let body = [90u8; 497];
-    offer(p, s, 3, b"");
-    offer(p, s, 3, &body[0..119]);
-    offer(p, s, 3, &body[0..121]);
-    offer(p, s, 3, &body);
+    offer(rt, p, s, 3, b"")?;
+    offer(rt, p, s, 3, &body[0..119])?;
+    offer(rt, p, s, 3, &body[0..121])?;
+    offer(rt, p, s, 3, &body)
 }
 
-fn stagings(p: &[u8], s: &mut [u8]) {
+fn stagings(rt: &impl Print, p: &[u8], s: &mut [u8]) -> io::Result<()> {
     let body = setup(3);
-    offer(p, &mut s[0..0], 3, &body);
+    offer(rt, p, &mut s[0..0], 3, &body)?;
     if 2031 <= s.len() {
-        offer(p, &mut s[0..2031], 3, &body);
+        offer(rt, p, &mut s[0..2031], 3, &body)?;
     }
+    Ok(())
 }
 
 // What is answered on this pool.
-fn ask(name: &[u8], p: &[u8], s: &mut [u8]) {
+fn ask(rt: &impl Print, name: &[u8], p: &[u8], s: &mut [u8]) -> io::Result<()> {
     let body = setup(3);
-    io::write_all(STDOUT_FILENO, name);
-    offer(p, s, 3, &body);
-    recall(p, 3);
-    look_up(p, 103, 0);
+    rt.write_all(name)?;
+    offer(rt, p, s, 3, &body)?;
+    recall(rt, p, 3)?;
+    look_up(rt, p, 103, 0)
 }
 
-fn lengths(p: &[u8], s: &mut [u8]) {
-    ask(b"pool of no bytes\n", &p[0..0], &mut s[0..0]);
+fn lengths(rt: &impl Print, p: &[u8], s: &mut [u8]) -> io::Result<()> {
+    ask(rt, b"pool of no bytes\n", &p[0..0], &mut s[0..0])?;
     if 6143 <= p.len() {
-        ask(b"pool of 6143 bytes\n", &p[0..6143], s);
+        ask(rt, b"pool of 6143 bytes\n", &p[0..6143], s)?;
     }
+    Ok(())
 }
 
 // A pool with another id behind the first header of `p`.
@@ -62,43 +65,44 @@ fn mix(other: &mut [u8], p: &[u8]) {
 }
 
 // Neither header valid; two that differ.
-fn headers(p: &[u8], s: &mut [u8]) {
+fn headers(rt: &impl Print, p: &[u8], s: &mut [u8]) -> io::Result<()> {
     let mut other = [0u8; 6144];
-    ask(b"pool without a header\n", &other, s);
+    ask(rt, b"pool without a header\n", &other, s)?;
     mix(&mut other, p);
-    ask(b"pool with two headers\n", &other, s);
+    ask(rt, b"pool with two headers\n", &other, s)
 }
 
-fn sealed(p: &[u8], s: &mut [u8]) {
-    ask(b"sealed pool\n", p, s);
+fn sealed(rt: &impl Print, p: &[u8], s: &mut [u8]) -> io::Result<()> {
+    ask(rt, b"sealed pool\n", p, s)?;
     if 10 <= s.len() {
-        ask(b"sealed pool\n", p, &mut s[0..10]);
+        ask(rt, b"sealed pool\n", p, &mut s[0..10])?;
     }
+    Ok(())
 }
 
-fn checks(p: &[u8], s: &[u8]) {
-    examples::report::check(b"  check of that pool: ", p, p.len());
-    examples::report::check(b"  check of staging: ", s, s.len());
+fn checks(rt: &impl Print, p: &[u8], s: &[u8]) -> io::Result<()> {
+    examples::report::check(rt, b"  check of that pool: ", p, p.len())?;
+    examples::report::check(rt, b"  check of staging: ", s, s.len())
 }
 
-fn refused(p: &[u8], s: &mut [u8]) {
-    numbers(p, s);
-    bodies(p, s);
-    stagings(p, s);
-    lengths(p, s);
-    headers(p, s);
+fn refused(rt: &impl Print, p: &[u8], s: &mut [u8]) -> io::Result<()> {
+    numbers(rt, p, s)?;
+    bodies(rt, p, s)?;
+    stagings(rt, p, s)?;
+    lengths(rt, p, s)?;
+    headers(rt, p, s)
 }
 
-fn unchanged(p: &[u8], s: &mut [u8]) {
-    checks(p, s);
-    refused(p, s);
-    checks(p, s);
+fn unchanged(rt: &impl Print, p: &[u8], s: &mut [u8]) -> io::Result<()> {
+    checks(rt, p, s)?;
+    refused(rt, p, s)?;
+    checks(rt, p, s)
 }
 
-pub fn cases(p: &mut [u8]) {
+pub fn cases(rt: &impl Print, p: &mut [u8]) -> io::Result<()> {
     let mut staging = [7u8; 2032];
-    keep(p, 3, 3);
-    unchanged(p, &mut staging);
-    change(p, 512, 1);
-    sealed(p, &mut staging);
+    keep(rt, p, 3, 3)?;
+    unchanged(rt, p, &mut staging)?;
+    change(rt, p, 512, 1)?;
+    sealed(rt, p, &mut staging)
 }

@@ -1,34 +1,35 @@
 // Two zones, R 1, C 1, Z 2: the look-up from each cell on; then zone 1 is broken.
 use crate::calls::{change, look_up, store};
 use examples::saves::{keep, recall};
+use std::io;
 
-fn fill(p: &mut [u8]) {
-    keep(p, 0, 0);
-    store(p, 7, b"a");
-    keep(p, 1, 1);
-    store(p, 7, b"b");
+fn fill(rt: &impl Print, p: &mut [u8]) -> io::Result<()> {
+    keep(rt, p, 0, 0)?;
+    store(rt, p, 7, b"a")?;
+    keep(rt, p, 1, 1)?;
+    store(rt, p, 7, b"b")
 }
 
 // Cell 7 is the last one.
-fn from(p: &[u8]) {
-    look_up(p, 7, 0);
-    look_up(p, 7, 4);
-    look_up(p, 7, 7);
-    look_up(p, 7, 8);
-    look_up(p, 7, usize::MAX);
+fn from(rt: &impl Print, p: &[u8]) -> io::Result<()> {
+    look_up(rt, p, 7, 0)?;
+    look_up(rt, p, 7, 4)?;
+    look_up(rt, p, 7, 7)?;
+    look_up(rt, p, 7, 8)?;
+    look_up(rt, p, 7, usize::MAX)
 }
 
 // Look judges its own zone alone.
-fn broken(p: &mut [u8]) {
-    recall(p, 0);
-    keep(p, 0, 0);
-    look_up(p, 100, 0);
-    examples::report::body(b"look at 0: ", p, 0);
+fn broken(rt: &impl Print, p: &mut [u8]) -> io::Result<()> {
+    recall(rt, p, 0)?;
+    keep(rt, p, 0, 0)?;
+    look_up(rt, p, 100, 0)?;
+    examples::report::body(rt, b"look at 0: ", p, 0)
 }
 
-pub fn cases(p: &mut [u8]) {
-    fill(p);
-    from(p);
-    change(p, 5120, 3);
-    broken(p);
+pub fn cases(rt: &impl Print, p: &mut [u8]) -> io::Result<()> {
+    fill(rt, p)?;
+    from(rt, p)?;
+    change(rt, p, 5120, 3)?;
+    broken(rt, p)
 }

@@ -1,50 +1,51 @@
 // The ten set-ups in the pool R 4, C 2, Z 1: number 3 saved twice, then the others.
 use crate::{check, keep_each};
 use examples::saves::{keep, recall};
-use libc::STDOUT_FILENO;
+use std::io;
 
 // Number 3 is the object at cell 0.
-fn head(p: &[u8]) {
-    recall(p, 3);
+fn head(rt: &impl Print, p: &[u8]) -> io::Result<()> {
+    recall(rt, p, 3)?;
     if p.len() == 7168 {
-        examples::report::hex(b"  check in its head: ", words::load32(p, 4616));
+        examples::report::hex(rt, b"  check in its head: ", words::load32(p, 4616))?;
     }
-    check(p);
+    check(rt, p)
 }
 
-fn twice(p: &mut [u8]) {
-    keep(p, 3, 3);
-    head(p);
-    keep(p, 3, 99);
-    head(p);
+fn twice(rt: &impl Print, p: &mut [u8]) -> io::Result<()> {
+    keep(rt, p, 3, 3)?;
+    head(rt, p)?;
+    keep(rt, p, 3, 99)?;
+    head(rt, p)
 }
 
-fn others(p: &mut [u8]) {
-    recall(p, 7);
-    recall(p, 10);
-    keep_each(p, 0, 3);
-    keep_each(p, 4, 10);
+fn others(rt: &impl Print, p: &mut [u8]) -> io::Result<()> {
+    recall(rt, p, 7)?;
+    recall(rt, p, 10)?;
+    keep_each(rt, p, 0, 3)?;
+    keep_each(rt, p, 4, 10)
 }
 
-fn recall_each(p: &[u8]) {
+fn recall_each(rt: &impl Print, p: &[u8]) -> io::Result<()> {
     let mut n = 0;
     while n < 10 {
-        recall(p, n);
+        recall(rt, p, n)?;
         n += 1;
     }
+    Ok(())
 }
 
 // What poolscan prints of the pool.
-fn list(p: &[u8]) {
-    let mut out = io::large_buffer();
+fn list(rt: &impl Print, p: &[u8]) -> io::Result<()> {
+    let mut out = [0u8; 65536];
     let k = scan::text(p, &mut out);
-    io::write_all(STDOUT_FILENO, &out[0..k]);
+    rt.write_all(&out[0..k])
 }
 
-pub fn cases(p: &mut [u8]) {
-    twice(p);
-    others(p);
-    recall_each(p);
-    check(p);
-    list(p);
+pub fn cases(rt: &impl Print, p: &mut [u8]) -> io::Result<()> {
+    twice(rt, p)?;
+    others(rt, p)?;
+    recall_each(rt, p)?;
+    check(rt, p)?;
+    list(rt, p)
 }

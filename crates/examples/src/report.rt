@@ -1,128 +1,120 @@
 // What the example programs print: a name, then a check, a number, a body, an entry, scrub's counts, what repair altered, or the outcome of a
 // call.
 use answers::Answer;
-use io::{print_decimal, print_hex};
-use libc::STDOUT_FILENO;
 use pool::{Outcome, Repaired, Scrubbed};
+use std::io;
 
 // The check of the first `n` bytes of `s`.
-pub fn check(name: &[u8], s: &[u8], n: usize) {
+pub fn check(rt: &impl Print, name: &[u8], s: &[u8], n: usize) -> io::Result<()> {
     if n <= s.len() {
-        value(name, sums::check(&s[0..n]));
+        value(rt, name, sums::check(&s[0..n]))?;
     }
+    Ok(())
 }
 
-pub fn value(name: &[u8], v: u32) {
-    hex(name, v as u64);
+pub fn value(rt: &impl Print, name: &[u8], v: u32) -> io::Result<()> {
+    hex(rt, name, v as u64)
 }
 
 // The last eight hexadecimal digits of `v`.
-pub fn hex(name: &[u8], v: u64) {
-    io::write_all(STDOUT_FILENO, name);
-    print_hex(STDOUT_FILENO, v, 8);
-    io::write_all(STDOUT_FILENO, b"\n");
+pub fn hex(rt: &impl Print, name: &[u8], v: u64) -> io::Result<()> {
+    rt.write_all(name)?;
+    println!(rt; "{v:08x}")
 }
 
-pub fn outcome(name: &[u8], o: Outcome) {
-    io::write_all(STDOUT_FILENO, name);
+pub fn outcome(rt: &impl Print, name: &[u8], o: Outcome) -> io::Result<()> {
+    rt.write_all(name)?;
     match o {
-        Outcome::Taken => {
-            io::write_all(STDOUT_FILENO, b"done\n");
-        }
-        Outcome::Refused(n) => {
-            io::write_all(STDOUT_FILENO, b"refused ");
-            print_decimal(STDOUT_FILENO, n as u64);
-            io::write_all(STDOUT_FILENO, b"\n");
-        }
+        Outcome::Taken => rt.write_all(b"done\n"),
+        Outcome::Refused(n) => numbered(rt, b"refused ", n as usize),
     }
 }
 
 // How many bytes repair altered, or the refusal.
-pub fn repaired(name: &[u8], r: Repaired) {
-    io::write_all(STDOUT_FILENO, name);
+pub fn repaired(rt: &impl Print, name: &[u8], r: Repaired) -> io::Result<()> {
+    rt.write_all(name)?;
     match r {
-        Repaired::Altered(n) => numbered(b"altered ", n),
-        Repaired::Refused(n) => numbered(b"refused ", n as usize),
+        Repaired::Altered(n) => numbered(rt, b"altered ", n),
+        Repaired::Refused(n) => numbered(rt, b"refused ", n as usize),
     }
 }
 
-fn numbered(word: &[u8], n: usize) {
-    io::write_all(STDOUT_FILENO, word);
-    print_decimal(STDOUT_FILENO, n as u64);
-    io::write_all(STDOUT_FILENO, b"\n");
+fn numbered(rt: &impl Print, word: &[u8], n: usize) -> io::Result<()> {
+    rt.write_all(word)?;
+    rt.println(n)
 }
 
-pub fn number(name: &[u8], n: usize) {
-    io::write_all(STDOUT_FILENO, name);
-    numbered(b"", n);
+pub fn number(rt: &impl Print, name: &[u8], n: usize) -> io::Result<()> {
+    rt.write_all(name)?;
+    numbered(rt, b"", n)
 }
 
 // The same, and the line goes on.
-pub fn told(name: &[u8], n: usize) {
-    io::write_all(STDOUT_FILENO, name);
-    print_decimal(STDOUT_FILENO, n as u64);
+pub fn told(rt: &impl Print, name: &[u8], n: usize) -> io::Result<()> {
+    rt.write_all(name)?;
+    rt.print(n)
 }
 
-pub fn answer(name: &[u8], a: Answer) {
-    io::write_all(STDOUT_FILENO, name);
+pub fn answer(rt: &impl Print, name: &[u8], a: Answer) -> io::Result<()> {
+    rt.write_all(name)?;
     match a {
-        Answer::Address(n) => numbered(b"address ", n),
-        Answer::Taken => {
-            io::write_all(STDOUT_FILENO, b"taken\n");
-        }
-        Answer::Started => {
-            io::write_all(STDOUT_FILENO, b"started\n");
-        }
-        Answer::Stored(k) => numbered(b"stored, step ", k),
-        Answer::Barrier(k) => numbered(b"barrier, step ", k),
-        Answer::Done(k) => numbered(b"done, steps ", k),
-        Answer::Refused(n) => numbered(b"refused ", n as usize),
+        Answer::Address(n) => numbered(rt, b"address ", n),
+        Answer::Taken => rt.write_all(b"taken\n"),
+        Answer::Started => rt.write_all(b"started\n"),
+        Answer::Stored(k) => numbered(rt, b"stored, step ", k),
+        Answer::Barrier(k) => numbered(rt, b"barrier, step ", k),
+        Answer::Done(k) => numbered(rt, b"done, steps ", k),
+        Answer::Refused(n) => numbered(rt, b"refused ", n as usize),
     }
 }
 
 // The object at `address`: its body's first byte and length, or the refusal.
-pub fn body(name: &[u8], pool: &[u8], address: usize) {
-    io::write_all(STDOUT_FILENO, name);
-    first(pool::look(pool, address), pool::look_refusal(pool, address));
+pub fn body(rt: &impl Print, name: &[u8], pool: &[u8], address: usize) -> io::Result<()> {
+    rt.write_all(name)?;
+    first(
+        rt,
+        pool::look(pool, address),
+        pool::look_refusal(pool, address),
+    )
 }
 
 // The first byte and the length of `part`; of none, the refusal `n`.
-fn first(part: &[u8], n: u8) {
+fn first(rt: &impl Print, part: &[u8], n: u8) -> io::Result<()> {
     if part.len() == 0 {
-        numbered(b"refused ", n as usize);
-        return;
+        return numbered(rt, b"refused ", n as usize);
     }
-    print_hex(STDOUT_FILENO, words::load8(part, 0), 2);
-    numbered(b", length ", part.len());
+    let byte = words::load8(part, 0);
+    print!(rt; "{byte:02x}")?;
+    numbered(rt, b", length ", part.len())
 }
 
 // What scrub answers: objects met, damaged ones, broken zones, columns with wrong parity; or the refusal.
-pub fn scrub(name: &[u8], pool: &[u8]) {
-    io::write_all(STDOUT_FILENO, name);
+pub fn scrub(rt: &impl Print, name: &[u8], pool: &[u8]) -> io::Result<()> {
+    rt.write_all(name)?;
     match pool::scrub(pool) {
         Scrubbed::Counts(objects, damaged, broken, columns) => {
-            counted(objects);
-            counted(damaged);
-            counted(broken);
-            numbered(b"", columns);
+            counted(rt, objects)?;
+            counted(rt, damaged)?;
+            counted(rt, broken)?;
+            numbered(rt, b"", columns)
         }
-        Scrubbed::Refused(n) => numbered(b"refused ", n as usize),
+        Scrubbed::Refused(n) => numbered(rt, b"refused ", n as usize),
     }
 }
 
 // A count with others after it.
-fn counted(n: usize) {
-    print_decimal(STDOUT_FILENO, n as u64);
-    io::write_all(STDOUT_FILENO, b", ");
+fn counted(rt: &impl Print, n: usize) -> io::Result<()> {
+    rt.print(n)?;
+    rt.write_all(b", ")
 }
 
 // The staged entry `e`: its target, and its word in hexadecimal.
-pub fn entry(name: &[u8], e: &[u8]) {
+pub fn entry(rt: &impl Print, name: &[u8], e: &[u8]) -> io::Result<()> {
     if e.len() == 16 {
-        io::write_all(STDOUT_FILENO, name);
-        print_decimal(STDOUT_FILENO, words::load64(e, 0));
-        io::write_all(STDOUT_FILENO, b", word ");
-        print_hex(STDOUT_FILENO, words::load64(e, 8), 16);
-        io::write_all(STDOUT_FILENO, b"\n");
+        rt.write_all(name)?;
+        rt.print(words::load64(e, 0))?;
+        let word = words::load64(e, 8);
+        println!(rt; ", word {word:016x}")?;
     }
+    Ok(())
 }

@@ -1,15 +1,17 @@
 // poolscan (01, "Bench examples"): reads a pool of at most 65,536 bytes from standard input and prints its text; more is refusal 2.
-use libc::{STDIN_FILENO, STDOUT_FILENO};
+#![tactic(auto)]
 
-fn main() {
-    let mut pool = io::large_buffer();
+use std::io;
+
+fn main(rt: HostRuntime) -> io::Result<()> {
+    let mut input = rt.reader();
+    let mut pool = [0u8; 65536];
     let mut more = [0u8; 1];
-    let mut out = io::large_buffer();
-    let n = io::read_full(STDIN_FILENO, &mut pool);
-    if 0 < io::read_full(STDIN_FILENO, &mut more) {
-        io::write_all(STDOUT_FILENO, b"(refused 2)\n");
-        return;
+    let mut out = [0u8; 65536];
+    let n = reading::read_full(&mut input, &mut pool)?;
+    if 0 < reading::read_full(&mut input, &mut more)? {
+        return rt.write_all(b"(refused 2)\n");
     }
     let k = scan::text(&pool[0..n], &mut out);
-    io::write_all(STDOUT_FILENO, &out[0..k]);
+    rt.write_all(&out[0..k])
 }

@@ -1,10 +1,12 @@
 // A line taken: the front panel's, or a command, which is obeyed on the pool.
 use commands::Done;
 use errors::Queue;
-use libc::STDOUT_FILENO;
+use std::fs::OpenFile;
+use std::io;
+use std::io::{Seek, Write};
 
 // The errors that wait, and whether another line is to be read.
-#[derive(Drop)]
+#[derive(Clone, Copy)]
 pub struct Next {
     pub queue: Queue,
     pub going: bool,
@@ -19,51 +21,67 @@ fn recalled(setup: &mut [u8], pool: &[u8], at: usize, n: usize) {
     }
 }
 
-fn printed(out: &[u8], n: usize) {
+fn printed(rt: &impl Print, out: &[u8], n: usize) -> io::Result<()> {
     if n <= out.len() {
-        io::write_all(STDOUT_FILENO, &out[0..n]);
+        rt.write_all(&out[0..n])?;
     }
+    Ok(())
 }
 
 // Carries out what a command line came to. False if the program is to end.
-fn carry_out(
-    file: i32,
+fn carry_out<F: Write + Seek + OpenFile>(
+    rt: &(impl Print + Eprint),
+    file: &mut Option<F>,
     pool: &mut [u8],
     setup: &mut [u8],
     done: Done,
     staging: &[u8],
     out: &[u8],
-) -> bool {
+) -> io::Result<bool> {
     match done {
-        Done::Nothing => true,
-        Done::Saving(txn) => crate::steps::commit(file, pool, txn, staging),
+        Done::Nothing => Ok(true),
+        Done::Saving(txn) => crate::steps::commit(rt, file, pool, txn, staging),
         Done::Recalled(at, n) => {
             recalled(setup, pool, at, n);
-            true
+            Ok(true)
         }
         Done::Printed(n) => {
-            printed(out, n);
-            true
+            printed(rt, out, n)?;
+            Ok(true)
         }
     }
 }
 
 // Obeys a command line.
-fn obey(file: i32, pool: &mut [u8], setup: &mut [u8], queue: Queue, line: &[u8]) -> Next {
+fn obey<F: Write + Seek + OpenFile>(
+    rt: &(impl Print + Eprint),
+    file: &mut Option<F>,
+    pool: &mut [u8],
+    setup: &mut [u8],
+    queue: Queue,
+    line: &[u8],
+) -> io::Result<Next> {
     let mut staging = [0u8; 2032];
     let mut out = [0u8; 32];
     let obeyed = commands::obey(line, setup, queue, pool, &mut staging, &mut out);
     let done = obeyed.done;
-    let going = carry_out(file, pool, setup, done, &staging, &out);
+    let going = carry_out(rt, file, pool, setup, done, &staging, &out)?;
     let queue = obeyed.queue;
-    Next { queue, going }
+    Ok(Next { queue, going })
 }
 
 // A line is the front panel's or a command.
-pub fn take(file: i32, pool: &mut [u8], setup: &mut [u8], queue: Queue, line: &[u8]) -> Next {
+pub fn take<F: Write + Seek + OpenFile>(
+    rt: &(impl Print + Eprint),
+    file: &mut Option<F>,
+    pool: &mut [u8],
+    setup: &mut [u8],
+    queue: Queue,
+    line: &[u8],
+) -> io::Result<Next> {
     if crate::panel::is_for(line) {
-        crate::panel::take(setup, line);
-        return Next { queue, going: true };
+        crate::panel::take(rt, setup, line)?;
+        return Ok(Next { queue, going: true });
     }
-    obey(file, pool, setup, queue, line)
+    obey(rt, file, pool, setup, queue, line)
 }

@@ -1,5 +1,7 @@
 // terminal [FILE] (A.3): command lines typed in are obeyed, as they come, on the pool that FILE keeps, or on one in memory. A line that begins with
 // `>` is the front panel: `>text` makes the text the present set-up, which *SAV stores and *RCL replaces, and `>` alone prints it.
+#![tactic(auto)]
+
 mod file; // the pool in its file
 mod line; // a line taken: the front panel's or a command
 mod panel; // the present set-up
@@ -8,23 +10,39 @@ mod typed; // lines as they come
 
 use crate::line::Next;
 use errors::Queue;
+use std::fs::{OpenFile, OpenOptions};
+use std::io::{ErrorKind, Read, Seek, Write};
+use std::rt::Files;
+use std::{env, io};
 
 // Reads a line and takes it.
-fn turn(file: i32, pool: &mut [u8], setup: &mut [u8], queue: Queue) -> Next {
+fn turn<F: Write + Seek + OpenFile>(
+    rt: &(impl Print + Eprint),
+    input: &mut impl Read,
+    file: &mut Option<F>,
+    pool: &mut [u8],
+    setup: &mut [u8],
+    queue: Queue,
+) -> io::Result<Next> {
     let mut buf = [0u8; 256];
-    let typed = typed::read_line(&mut buf);
+    let typed = typed::read_line(input, &mut buf);
     if typed.ended {
-        return Next {
+        return Ok(Next {
             queue,
             going: false,
-        };
+        });
     }
     let n = typed.length;
-    line::take(file, pool, setup, queue, &buf[..n])
+    line::take(rt, file, pool, setup, queue, &buf[..n])
 }
 
 // Takes lines until the input ends. The loop counts its turns down, from a number that no run uses up.
-fn talk(file: i32, pool: &mut [u8]) {
+fn talk<F: Write + Seek + OpenFile>(
+    rt: &(impl Print + Eprint + Input),
+    file: &mut Option<F>,
+    pool: &mut [u8],
+) -> io::Result<()> {
+    let mut input = rt.reader();
     let mut setup = [b' '; 120];
     let mut queue = Queue {
         errors: [0u16; 10],
@@ -32,19 +50,25 @@ fn talk(file: i32, pool: &mut [u8]) {
     };
     let mut turns = u64::MAX;
     while turns > 0 {
-        let next = turn(file, pool, &mut setup, queue);
+        let next = turn(rt, &mut input, file, pool, &mut setup, queue)?;
         if !next.going {
-            return;
+            return Ok(());
         }
         queue = next.queue;
         turns -= 1;
     }
+    Ok(())
 }
 
-fn serve(file: i32, pool: &mut [u8]) {
-    if steps::recover(file, pool) {
-        talk(file, pool);
+fn serve<F: Write + Seek + OpenFile>(
+    rt: &(impl Print + Eprint + Input),
+    file: &mut Option<F>,
+    pool: &mut [u8],
+) -> io::Result<()> {
+    if steps::recover(rt, file, pool)? {
+        talk(rt, file, pool)?;
     }
+    Ok(())
 }
 
 // A fresh pool, with room for all ten set-ups.
@@ -54,54 +78,55 @@ fn fresh() -> [u8; 7168] {
     pool
 }
 
-fn in_memory() {
+fn in_memory<R: Print + Eprint + Input + Files>(rt: &R) -> io::Result<()> {
     let mut pool = fresh();
-    serve(file::NONE, &mut pool);
+    let mut file: Option<R::File> = None;
+    serve(rt, &mut file, &mut pool)
 }
 
-fn in_new_file(path: &[u8]) {
+fn in_new_file<R: Print + Eprint + Input + Files>(rt: &R, path: &str) -> io::Result<()> {
     let mut pool = fresh();
-    let file = os::create(path);
-    if file < 0 {
-        os::fail(path);
-        return;
+    match OpenOptions::new()
+        .write(true)
+        .create_new(true)
+        .open(rt, path)
+    {
+        Ok(file) => {
+            let mut file = Some(file);
+            if file::keep(rt, &mut file, &pool) {
+                serve(rt, &mut file, &mut pool)?;
+            }
+        }
+        Err(error) => file::fail(rt, path, error),
     }
-    if file::keep(file, &pool) {
-        serve(file, &mut pool);
-    }
+    Ok(())
 }
 
 // The pool that the file keeps; more than 65,536 bytes are refusal 2.
-fn in_file(file: i32) {
-    let mut pool = io::large_buffer();
+fn in_file<R: Print + Eprint + Input + Files>(rt: &R, mut file: R::File) -> io::Result<()> {
+    let mut pool = [0u8; 65536];
     let mut more = [0u8; 1];
-    let n = io::read_full(file, &mut pool);
-    if 0 < io::read_full(file, &mut more) {
-        steps::refused(2);
-        return;
+    let n = reading::read_full(&mut file, &mut pool)?;
+    if 0 < reading::read_full(&mut file, &mut more)? {
+        return steps::refused(rt, 2);
     }
-    serve(file, &mut pool[..n]);
+    serve(rt, &mut Some(file), &mut pool[..n])
 }
 
-fn on_file(path: &[u8]) {
-    let file = os::open_update(path);
-    if file >= 0 {
-        in_file(file);
-        return;
+fn on_file<R: Print + Eprint + Input + Files>(rt: &R, path: &str) -> io::Result<()> {
+    match OpenOptions::new().read(true).write(true).open(rt, path) {
+        Ok(file) => in_file(rt, file),
+        Err(error) if error.kind() == ErrorKind::NotFound => in_new_file(rt, path),
+        Err(error) => {
+            file::fail(rt, path, error);
+            Ok(())
+        }
     }
-    if os::errno() == libc::ENOENT {
-        in_new_file(path);
-        return;
-    }
-    os::fail(path);
 }
 
-fn main() {
-    if os::arg_count() < 2 {
-        in_memory();
-        return;
+fn main(rt: HostRuntime) -> io::Result<()> {
+    match env::args(&rt)?.nth(1) {
+        None => in_memory(&rt),
+        Some(path) => on_file(&rt, path.as_str()),
     }
-    let mut path = io::buffer();
-    let n = os::arg(1, &mut path);
-    on_file(&path[..n]);
 }

@@ -1,7 +1,7 @@
 // The front panel: the present set-up, and the lines that set it and print it.
-ghost use Rattle.io.specs.Counts.{IsPrefixLen};
+ghost use Rattle.std.specs.Prelude.{◌≡◌, ◌≤◌, length, take};
 
-use libc::STDOUT_FILENO;
+use std::io;
 
 // Whether a line is the front panel's.
 pub fn is_for(line: &[u8]) -> bool {
@@ -30,7 +30,7 @@ pub fn set(setup: &mut [u8], text: &[u8]) {
 
 // The length without trailing blanks.
 fn length(setup: &[u8]) -> usize
-    ensures { IsPrefixLen result setup.now }
+    ensures { (result ≤ length setup.now) × (result ≡ length (take result setup.now)) }
 {
     let mut n = setup.len();
     while n > 0 {
@@ -42,17 +42,17 @@ fn length(setup: &[u8]) -> usize
     n
 }
 
-fn show(setup: &[u8]) {
+fn show(rt: &impl Print, setup: &[u8]) -> io::Result<()> {
     let n = length(setup);
-    io::write_all(STDOUT_FILENO, &setup[..n]);
-    io::write_all(STDOUT_FILENO, b"\n");
+    rt.write_all(&setup[..n])?;
+    rt.write_all(b"\n")
 }
 
 // Takes a line of the front panel.
-pub fn take(setup: &mut [u8], line: &[u8]) {
+pub fn take(rt: &impl Print, setup: &mut [u8], line: &[u8]) -> io::Result<()> {
     if line.len() > 1 {
         set(setup, &line[1..]);
-        return;
+        return Ok(());
     }
-    show(setup);
+    show(rt, setup)
 }

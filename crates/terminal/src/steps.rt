@@ -1,23 +1,23 @@
 // A recovery and a commit made part after part, the file written at each barrier. Each answers whether the program goes on.
 use crate::file::keep;
 use answers::{Answer, is_refused, kind, value};
-use libc::STDOUT_FILENO;
 use recovery::Recovery;
+use std::fs::OpenFile;
+use std::io;
+use std::io::{Seek, Write};
 use transaction::Transaction;
 
-pub fn refused(n: usize) {
-    io::write_all(STDOUT_FILENO, b"(refused ");
-    io::print_decimal(STDOUT_FILENO, n as u64);
-    io::write_all(STDOUT_FILENO, b")\n");
+pub fn refused(rt: &impl Print, n: usize) -> io::Result<()> {
+    println!(rt; "(refused {n})")
 }
 
 // False for a refusal, which is printed.
-fn accepted(answer: Answer) -> bool {
+fn accepted(rt: &impl Print, answer: Answer) -> io::Result<bool> {
     if is_refused(answer) {
-        refused(value(answer));
-        return false;
+        refused(rt, value(answer))?;
+        return Ok(false);
     }
-    true
+    Ok(true)
 }
 
 // Whether there are steps to make.
@@ -29,7 +29,11 @@ fn has_steps(answer: Answer) -> bool {
 }
 
 // Recovers the pool: no recovery has more than three parts.
-pub fn recover(file: i32, pool: &mut [u8]) -> bool {
+pub fn recover<F: Write + Seek + OpenFile>(
+    rt: &(impl Print + Eprint),
+    file: &mut Option<F>,
+    pool: &mut [u8],
+) -> io::Result<bool> {
     let mut r = Recovery::start(pool);
     let mut answer = r.answer;
     let mut parts = 3usize;
@@ -37,16 +41,22 @@ pub fn recover(file: i32, pool: &mut [u8]) -> bool {
         let recovery = r.recovery;
         r = recovery.advance(pool);
         answer = r.answer;
-        if !keep(file, pool) {
-            return false;
+        if !keep(rt, file, pool) {
+            return Ok(false);
         }
         parts -= 1;
     }
-    accepted(answer)
+    accepted(rt, answer)
 }
 
 // Commits the transaction: a commit has five parts.
-pub fn commit(file: i32, pool: &mut [u8], txn: Transaction, staging: &[u8]) -> bool {
+pub fn commit<F: Write + Seek + OpenFile>(
+    rt: &(impl Print + Eprint),
+    file: &mut Option<F>,
+    pool: &mut [u8],
+    txn: Transaction,
+    staging: &[u8],
+) -> io::Result<bool> {
     let mut r = txn.commit(pool, staging);
     let mut answer = r.answer;
     let mut parts = 5usize;
@@ -54,10 +64,10 @@ pub fn commit(file: i32, pool: &mut [u8], txn: Transaction, staging: &[u8]) -> b
         let going = r.transaction;
         r = going.advance(pool, staging);
         answer = r.answer;
-        if !keep(file, pool) {
-            return false;
+        if !keep(rt, file, pool) {
+            return Ok(false);
         }
         parts -= 1;
     }
-    accepted(answer)
+    accepted(rt, answer)
 }

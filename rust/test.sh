@@ -5,7 +5,7 @@
 set -u
 cd "$(dirname "$0")" || exit 2
 unset POOL_C_LIB
-(cd .. && rt staticlib pool_c) || { echo '0 passed, 1 failed'; exit 1; }
+(cd ../crates/pool_c && rt lib --cpu x86-64) || { echo '0 passed, 1 failed'; exit 1; }
 output=$(mktemp) || exit 2
 trap 'rm -f "$output"' EXIT
 passed=0

@@ -1,10 +1,10 @@
 #!/usr/bin/env bash
-# Holds target/staticlib/libpool_c.a (or the archive given) to the table in docs/DEVICE.md, "What the archive needs and takes". Prints what it measures; the last line
+# Holds crates/pool_c/out/libpool_c.a (or the archive given) to the table in docs/DEVICE.md, "What the archive needs and takes". Prints what it measures; the last line
 # is 'N passed, M failed', a row each. Needs objdump, readelf, nm and python3.
 set -u
 cd "$(dirname "$0")/.." || exit 2
-archive=${1:-target/staticlib/libpool_c.a}
-[ -f "$archive" ] || { echo "$archive: not there; rt staticlib pool_c makes it"; echo '0 passed, 1 failed'; exit 1; }
+archive=${1:-crates/pool_c/out/libpool_c.a}
+[ -f "$archive" ] || { echo "$archive: not there; rt lib --cpu x86-64 in crates/pool_c makes it"; echo '0 passed, 1 failed'; exit 1; }
 code=$(mktemp) || exit 2
 trap 'rm -f "$code"' EXIT
 objdump -dr --no-show-raw-insn "$archive" > "$code" || { echo '0 passed, 1 failed'; exit 1; }

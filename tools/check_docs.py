@@ -11,7 +11,8 @@ import figures
 import pictures
 
 ROOT = Path(__file__).resolve().parent.parent
-DOCS = [ROOT / "README.md"] + sorted((ROOT / "docs").glob("*.md"))
+# docs/PORT.md is left out: it names what was.
+DOCS = [ROOT / "README.md"] + sorted(doc for doc in (ROOT / "docs").glob("*.md") if doc.name != "PORT.md")
 SOURCES = ["crates/**/*.rt", "crates/**/*.antt", "crates/**/*.edit", "crates.txt", "rust/**/*.rs", "rust/**/*.toml", "rust/*.sh", "include/*.h",
            "examples/*", "tools/*.sh", "tools/*.py", ".ci/run"]
 ENDINGS = r"(?:md|svg|rt|antt|rs|h|c|txt|sh|py|a|toml)"
@@ -77,7 +78,7 @@ def files():
             plain = re.sub(r"\]\([^)]*\)|https?://\S+", "]", line)
             for path in PATH.findall(plain):
                 path = path.rstrip(".")
-                if path.startswith("target/") or path in ELSEWHERE:
+                if path.startswith("target/") or re.match(r"crates/[a-z_]+/out/", path) or path in ELSEWHERE:
                     continue
                 bases = [ROOT, doc.parent, ROOT / "crates", ROOT / "rust"]
                 if not (any((base / path).exists() for base in bases) or any(ROOT.glob(f"crates/*/{path}")) or path in names):
@@ -108,7 +109,7 @@ def names():
 
 def crates():
     """The crates' list is that of crates.txt, and no crate uses one of a layer above it; the way of a save is made of crates."""
-    uses = dict(line.split(":") for line in text(ROOT / "crates.txt").splitlines() if ":" in line and not line.startswith("#"))
+    uses = dict((line.split(":")[0].split()[0], line.split(":")[1]) for line in text(ROOT / "crates.txt").splitlines() if ":" in line and not line.startswith("#"))
     layers, calls = pictures.tables()
     level = {crate: i for i, layer in enumerate(layers.values()) for crate in layer}
     listed = [crate for layer in layers.values() for crate in layer]

@@ -15,7 +15,7 @@ if [ "${1:-}" = --gate ]; then
   gate="$(minutes $(($(date +%s) - began))) min, ended '$(tail -n 1 "$log")'"
 fi
 began=$(date +%s)
-RT_JOBS=2 rt prove > "$log" 2>&1 || { tail -n 3 "$log"; exit 1; }
+rt all verdict --jobs 2 > "$log" 2>&1 || { tail -n 3 "$log"; exit 1; }
 proofs=$(($(date +%s) - began))
 
 echo "| measure | value |"
@@ -25,13 +25,8 @@ echo "| toolchain | $(rt version) |"
 echo "| processors | $(nproc), $(sed -n 's/^model name[^:]*: //p' /proc/cpuinfo | head -n 1) |"
 [ -z "${gate:-}" ] || echo "| the gate | $gate |"
 echo "| every proof from nothing, two crates at a time | $(minutes $proofs) min |"
-echo "| crates | $(grep -c '^[a-z_0-9]*:' crates.txt) |"
+echo "| crates | $(grep -cE '^[a-z_0-9]+( staticlib)?:' crates.txt) |"
 echo "| must-fail edits | $(find crates -name '*.edit' | wc -l) |"
 echo "| lines of code | $(lines 'src/*' '*.rt') |"
 echo "| lines of definitions (specs/) | $(lines 'specs/*' '*.antt') |"
 echo "| lines of proofs (proofs/) | $(lines 'proofs/*' '*.antt') |"
-echo
-echo "Seconds to check each crate, without the crates below it:"
-echo
-sed -n 's/^rt: \([a-z_0-9]*\) proved (\([0-9]*\) s)$/\1 \2/p' "$log" | sort -k2,2nr -k1,1 \
-  | awk '{ line = line (line == "" ? "" : ", ") $1 " " $2 } END { print line }' | fold -s -w 140 | sed 's/ *$//'

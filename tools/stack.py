@@ -1,7 +1,7 @@
 #!/usr/bin/env python3
 """The most stack that a call into an archive can take, worked out from its compiled code (x86-64, objdump).
 
-  tools/stack.py target/staticlib/libpool_c.a
+  tools/stack.py crates/pool_c/out/libpool_c.a
 
 Every way through each function is followed: push, pop and additions to %rsp give the depth at each instruction, which must be the same on
 every way there. A function's own part is its greatest depth, with what it uses below the stack pointer (the red zone); a call adds 8 bytes for the return

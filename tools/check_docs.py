@@ -20,7 +20,7 @@ ENDINGS = r"(?:md|svg|rt|antt|rs|h|c|txt|sh|py|a|toml)"
 ALLOWED = set("""
     rt check staticlib version dev prove must-fail fmt objdump cargo cc python3 bash git clone cd run release offline test table
     stdin snprintf clwb clflushopt sfence DC CVAP CVAC DSB SY fsync ud2 memcpy memset std c99 target bin uint16_t
-    SAV RCL SYSTem ERRor IDN DMC EMC PCB
+    SAV RCL SYSTem ERRor IDN DMC EMC PCB read_to_end read_exact
 """.split())
 # Files that belong to others, and what the build makes.
 ELSEWHERE = {"isa-l.h", "libpmemobj.h", "libpool_c.a"}
@@ -72,7 +72,7 @@ def links():
 
 def files():
     """Every path that is named exists: from the root, beside the document, under crates/ or rust/; a bare file name somewhere."""
-    names = {file.name for pattern in SOURCES + ["docs/*", "README.md"] for file in ROOT.glob(pattern)}
+    names = {file.name for pattern in SOURCES + ["docs/*", "README.md"] for file in ROOT.glob(pattern) if "out" not in file.parts}
     for doc in DOCS:
         for at, line in enumerate(text(doc).splitlines(), 1):
             plain = re.sub(r"\]\([^)]*\)|https?://\S+", "]", line)
@@ -94,7 +94,7 @@ def names():
     """Every name between backquotes occurs in the sources, is a crate or a folder of one, or is allowed."""
     known = set(ALLOWED)
     for pattern in SOURCES:
-        for file in ROOT.glob(pattern):
+        for file in (file for file in ROOT.glob(pattern) if "out" not in file.parts):
             parts = file.relative_to(ROOT).parts
             if file.is_file() and "target" not in parts:
                 known.update(parts + (file.stem,))

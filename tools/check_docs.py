@@ -11,8 +11,8 @@ import figures
 import pictures
 
 ROOT = Path(__file__).resolve().parent.parent
-# docs/PORT.md is left out: it names what was.
-DOCS = [ROOT / "README.md"] + sorted(doc for doc in (ROOT / "docs").glob("*.md") if doc.name != "PORT.md")
+# docs/PORT.md and docs/DESIGN-PASS.md are left out: they name what was.
+DOCS = [ROOT / "README.md"] + sorted(doc for doc in (ROOT / "docs").glob("*.md") if doc.name not in ("PORT.md", "DESIGN-PASS.md"))
 SOURCES = ["crates/**/*.rt", "crates/**/*.antt", "crates/**/*.edit", "crates.txt", "rust/**/*.rs", "rust/**/*.toml", "rust/*.sh", "include/*.h",
            "examples/*", "tools/*.sh", "tools/*.py", ".ci/run"]
 ENDINGS = r"(?:md|svg|rt|antt|rs|h|c|txt|sh|py|a|toml)"

@@ -1,47 +1,21 @@
--- The loop that stores bytes one by one: of the bytes vs, the first i are stored in l from place a on. Assumes nothing.
-use Prim.Native.Nat.{ℕ, ◌+◌, ◌≤◌, ◌<◌}
-use mathlib.Core.Path.{◌≡◌, refl, sym, ap, ◌∙◌}
-use mathlib.Core.Logic.{◌⊎◌, inl, inr}
-use mathlib.Core.List.{List, [], ◌∷◌}
-use native.Mathlib.Numerals.{add-one}
-use native.Mathlib.Omega.{arith}
-use lib.ListN.{length, take, drop, get_or, set, length-set}
-use lib.Seq.{sets, length-take-le, take-suc, take_all, get_or-take, get_or-drop}
-use Rattle.rules.proofs.Sets.{sets-append}
-use Rattle.rules.proofs.Words.{sets-after, sets-before}
+-- Bytes stored as one part (`put_mid-sets`), and the bytes of a part copied elsewhere (`copied-sets`). Assumes nothing.
+use Prim.Native.Nat.{ℕ, ◌+◌, ◌≤◌}
+use mathlib.Core.Path.{◌≡◌, sym, ap, ◌∙◌}
+use mathlib.Core.List.{List, ◌++◌, append_assoc}
+use native.Mathlib.Nat.{add-sub_cancel_left}
+use borrow.Rule.Slice.PartMut.{put_mid}
+use lib.ListN.{length, take, drop}
+use lib.Seq.{sets, sets-eq, drop-drop}
+use Rattle.std.specs.List.{copy_within}
+use Rattle.rules.proofs.Parts.{part_length}
 use Rattle.pages.specs.Written.{Apart}
 
-pub record Storing (l : List ℕ) (a : ℕ) (vs : List ℕ) (l' : List ℕ) (i : ℕ) : Type 0 where
-  pub le : i ≤ length vs
-  pub same_length : length l' ≡ length l
-  pub now-is : l' ≡ sets l a (take i vs)
+pub put_mid-sets : (l : List ℕ) (a k : ℕ) (vs : List ℕ) → a + length vs ≤ length l → k ≡ length vs → put_mid a k l vs ≡ sets l a vs
+put_mid-sets l a k vs h e =
+    rw (e) (sym (sets-eq vs l a h ∙ append_assoc (take a l) vs _ ∙ ap (λ (r : List ℕ). take a l ++ (vs ++ r)) (sym (drop-drop (length vs) a l))))
 
-pub storing-start : (l : List ℕ) (a : ℕ) (vs : List ℕ) → Storing l a vs l 0
-storing-start l a vs = record { le = omega arith; same_length = refl; now-is = refl }
-
-pub storing-step : {l : List ℕ} {a : ℕ} {vs l' : List ℕ} {i j v : ℕ} → Storing l a vs l' i → i < length vs → j ≡ a + i → v ≡ get_or vs i 0
-    → Storing l a vs (set l' j v) (i + 1)
-storing-step {l} {a} {vs} {l'} {i} {j} {v} f h e b =
-    record {
-      le = omega arith;
-      same_length = length-set l' j v ∙ f.same_length;
-      now-is =
-          rw (f.now-is, e, b, add-one, take-suc vs i 0 h)
-          (sym (sets-append l a (take i vs) (get_or vs i 0 ∷ []) ∙ ap (λ (k : ℕ). set (sets l a (take i vs)) (a + k) (get_or vs i 0)) (length-take-le i vs f.le)));
-    }
-
-pub storing-end : {l : List ℕ} {a : ℕ} {vs l' : List ℕ} {i : ℕ} → Storing l a vs l' i → length vs ≤ i → l' ≡ sets l a vs
-storing-end {l} {a} {vs} {l'} {i} f h = f.now-is ∙ ap (sets l a) (take_all i vs h)
-
--- a byte of a part that is copied elsewhere is as at the start
-pub copy-byte : {l : List ℕ} {from to n : ℕ} {l' : List ℕ} {i : ℕ} → Apart (length l) from to n → Storing l to (take n (drop from l)) l' i → i < n
-    → get_or l' (from + i) 0 ≡ get_or (take n (drop from l)) i 0
-copy-byte {l} {from} {to} {n} {l'} {i} p f h =
-    ap (λ (x : List ℕ). get_or x (from + i) 0) f.now-is ∙ go p.apart ∙ sym (get_or-take n (drop from l) i 0 h ∙ get_or-drop from l i 0)
-  where
-    stored : length (take i (take n (drop from l))) ≡ i
-    stored = length-take-le i (take n (drop from l)) f.le
-
-    go : (from + n ≤ to) ⊎ (to + n ≤ from) → get_or (sets l to (take i (take n (drop from l)))) (from + i) 0 ≡ get_or l (from + i) 0
-    go (inl k) = sets-before l to (take i (take n (drop from l))) (from + i) (omega arith)
-    go (inr k) = sets-after l to (take i (take n (drop from l))) (from + i) (rw stored (omega arith))
+pub copied-sets : (l : List ℕ) (from to n : ℕ) → Apart (length l) from to n → copy_within l from (from + n) to ≡ sets l to (take n (drop from l))
+copied-sets l from to n p =
+    let k : length (take n (drop from l)) ≡ n = part_length l from n p.from_le in
+    let h : to + length (take n (drop from l)) ≤ length l = rw k p.to_le in
+    rw (add-sub_cancel_left from n) (ap (λ (i : ℕ). (take to l ++ take n (drop from l)) ++ drop (to + i) l) (sym k) ∙ sym (sets-eq (take n (drop from l)) l to h))

@@ -11,11 +11,7 @@ ghost use Rattle.pages.specs.Written.{Apart, HeaderFits};
 pub fn zero(s: &mut [u8])
     ensures { s.new ≡ replicate (length s.old) 0 }
 {
-    let mut i = 0;
-    while i < s.len() {
-        s[i] = 0;
-        i += 1;
-    }
+    s.fill(0);
 }
 
 // The bytes `part`, stored from `at` on.
@@ -23,11 +19,7 @@ pub fn store(s: &mut [u8], at: usize, part: &[u8])
     requires { at + length part.now ≤ length s.old }
     ensures { s.new ≡ sets s.old at part.now }
 {
-    let mut i = 0;
-    while i < part.len() {
-        s[at + i] = part[i];
-        i += 1;
-    }
+    s[at..at + part.len()].copy_from_slice(part);
 }
 
 // The `n` bytes from `from` on, stored from `to` on.
@@ -35,28 +27,16 @@ pub fn copy(s: &mut [u8], from: usize, to: usize, n: usize)
     requires { Apart (length s.old) from to n }
     ensures { s.new ≡ sets s.old to (take n (drop from s.old)) }
 {
-    let mut i = 0;
-    while i < n {
-        s[to + i] = s[from + i];
-        i += 1;
-    }
+    s.copy_within(from..from + n, to);
 }
 
-fn byte(x: usize) -> u8
-    requires { x < 256 }
-    ensures { result ≡ x }
-{
-    x as u8
-}
-
-// A header's bytes 0 to 15: the letters; R, C, Z and version 1, a byte each; the pool id.
+// A header's bytes 0 to 15: the letters; R, C, Z and version 1, a byte each; the pool id. Numbers one by one: layout::Shape is of a layer above.
 fn put_front(s: &mut [u8], at: usize, rows: usize, cols: usize, zones: usize, id: u64)
     requires { HeaderFits (length s.old) at rows cols zones }
     ensures { s.new ≡ sets s.old at (header_front (shape rows cols zones) id) }
 {
     store(s, at, b"SGPL");
-    let numbers = [byte(rows), byte(cols), byte(zones), 1];
-    store(s, at + 4, &numbers);
+    store(s, at + 4, &[rows as u8, cols as u8, zones as u8, 1]);
     words::store64(s, at + 8, id);
 }
 
@@ -67,5 +47,5 @@ pub fn put_header(s: &mut [u8], at: usize, rows: usize, cols: usize, zones: usiz
 {
     put_front(s, at, rows, cols, zones, id);
     let check = sums::check(&s[at..at + 16]);
-    words::store32(s, at + 16, check as u64);
+    words::store32(s, at + 16, u64::from(check));
 }

@@ -1,42 +1,17 @@
 -- The entries to ask for a part of the pool: where none of them has a target there, the part is the pool's own. Assumes nothing.
-use Prim.Native.Nat.{ℕ, ◌+◌, ◌-◌, ◌*◌, ◌%◌, ◌≤◌, ◌<◌}
+use Prim.Native.Nat.{ℕ, ◌+◌, ◌%◌, ◌≤◌, ◌<◌}
 use mathlib.Core.Path.{◌≡◌, refl, sym, ◌∙◌}
 use mathlib.Core.Logic.{◌⊎◌, inl, inr}
 use mathlib.Core.List.{List, [], ◌∷◌}
-use native.Mathlib.Nat.{sub-zero}
 use native.Mathlib.Decide.{dec_lt}
 use native.Mathlib.Omega.{arith}
 use lib.ListN.{length, take, drop, get_or}
 use lib.Seq.{ext_get_or, get_or-drop, get_or-take}
-use Rattle.rules.specs.Words.{put, word}
-use Rattle.rules.specs.Staging.{Store, Tidy, entries_at, lay}
-use Rattle.rules.proofs.Numbers.{less}
+use Rattle.rules.specs.Words.{put}
+use Rattle.rules.specs.Staging.{Store, Tidy, lay}
 use Rattle.rules.proofs.Parts.{part_length}
 use Rattle.rules.proofs.Words.{length-put, put-out}
-use Rattle.words.specs.Loaded.{Loaded}
-use Rattle.stage.specs.Index.{Indexed}
 use Rattle.stage.specs.View.{Asked, Clear, Staged, entries_of, part, seen}
-
--- ---- the pass over the entries, with i of them passed
-
-pub record Passing (st : List ℕ) (m a n i : ℕ) : Type 0 where
-  pub le : i ≤ m
-  pub rest : Clear a n (entries_at st (16 * i) (m - i)) → Clear a n (entries_of st m)
-
-pub passing-start : (st : List ℕ) (m a n : ℕ) → Passing st m a n 0
-unfolding entries_of
-passing-start st m a n = record { le = omega arith; rest = λ k. rw (sub-zero m) at k }
-
-pub passing_step : {st : List ℕ} {m a n i t : ℕ} → Passing st m a n i → i < m → Loaded 8 st (16 * i) t → (a ≤ t → a + n ≤ t) → Passing st m a n (i + 1)
-unfolding word
-passing_step {st} {m} {a} {n} {i} p h l k =
-    let e : 16 * (i + 1) ≡ 16 * i + 16 = omega arith in
-    record { le = omega arith; rest = λ c. (rw (less m i h) at p.rest) (rw l.value at k, rw e at c) }
-
-pub passing-end : {st : List ℕ} {m a n i : ℕ} → Passing st m a n i → m ≤ i → Asked st m a n 0
-passing-end {m = m} {i = i} p h = let e : m - i ≡ 0 = omega arith in record { some = inr (refl, (rw e at p.rest) tt) }
-
--- ---- what the entries to ask tell
 
 -- a word stored elsewhere leaves a part
 put-part : (p : List ℕ) (a n t w : ℕ) → a + n ≤ length p → a % 8 ≡ 0 → t % 8 ≡ 0 → (a ≤ t → a + n ≤ t) → part n a (put p t w) ≡ part n a p
@@ -59,13 +34,6 @@ lay-part (x ∷ xs) p a n h e t c =
     lay-part xs (put p x.at x.val) a n (rw length-put h) e t.3 c.1 ∙ put-part p a n x.at x.val h e t.0 c.0
 
 module _ {p st : List ℕ} {m a n r : ℕ} (s : Staged p st m) (k : Asked st m a n r) where
-  pub asked-staged : Staged p st r
-  unfolding entries_of
-  asked-staged = elim k.some [ inl e ↦ rw e s | inr c ↦ rw c.0 (record { room = omega arith; tidy = tt; words = s.words }) ]
-
   pub asked-seen : a % 8 ≡ 0 → a + n ≤ length p → part n a (seen p st r) ≡ part n a (seen p st m)
   unfolding seen entries_of
   asked-seen e h = elim k.some [ inl q ↦ rw q | inr c ↦ rw c.0 (sym (lay-part (entries_of st m) p a n h e s.tidy c.1)) ]
-
-pub asked-indexed : {ix st : List ℕ} {m a n r : ℕ} → Indexed ix st m → Asked st m a n r → Indexed ix st r
-asked-indexed x k = elim k.some [ inl e ↦ rw e x | inr c ↦ record { chained = λ h. absurd (let e = c.0 in omega arith) } ]

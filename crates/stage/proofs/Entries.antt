@@ -1,57 +1,24 @@
--- Entries in memory: the search for a target, one more entry, and stores outside the entries. Assumes nothing.
-use Prim.Native.Nat.{ℕ, zero, suc, ◌+◌, ◌-◌, ◌*◌, ◌%◌, ◌≤◌, ◌<◌}
-use mathlib.Core.Path.{◌≡◌, refl, sym, ◌∙◌}
+-- Entries in memory: their number, one more entry, and stores outside the entries. Assumes nothing.
+use Prim.Native.Nat.{ℕ, zero, suc, ◌+◌, ◌*◌, ◌%◌, ◌≤◌, ◌<◌}
+use mathlib.Core.Path.{◌≡◌, refl}
 use mathlib.Core.Logic.{◌⊎◌, inl, inr}
 use mathlib.Core.List.{List, [], ◌∷◌, ◌++◌}
-use native.Mathlib.Nat.{add-zero, zero-add, sub-zero}
+use native.Mathlib.Nat.{add-zero}
 use native.Mathlib.Omega.{arith}
 use lib.ListN.{length}
 use lib.Dec.{eqb}
-use borrow.Author.Tests.{eqb-false, eq-eqb, ne_eqb}
-use Rattle.rules.specs.Words.{field, put, word}
+use borrow.Author.Tests.{eqb-false}
+use Rattle.rules.specs.Words.{put, word}
 use Rattle.rules.specs.Staging.{Fresh, Store, entries_at, touch}
 use Rattle.rules.proofs.Bool.{split}
-use Rattle.rules.proofs.Numbers.{less}
 use Rattle.rules.proofs.Words.{word-put-other}
 use Rattle.rules.proofs.Transaction.{entries-count}
 use Rattle.stage.specs.View.{entries_of}
-use Rattle.words.specs.Loaded.{Loaded}
-use Rattle.stage.specs.Touched.{Slot, added, slot}
+use Rattle.stage.specs.Touched.{added}
 
 pub length-entries : (st : List ℕ) (n : ℕ) → length (entries_of st n) ≡ n
 unfolding entries_of
 length-entries st n = entries-count st 0 n
-
--- ---- the search, with i entries passed
-
-unfoldable pub slot_from : List ℕ → ℕ → ℕ → ℕ → ℕ
-slot_from st o n i = i + slot o (entries_at st (16 * i) (n - i))
-
-pub record Searching (st : List ℕ) (n o i : ℕ) : Type 0 where
-  pub le : i ≤ n
-  pub rest : slot_from st o n i ≡ slot o (entries_of st n)
-
-pub searching-start : (st : List ℕ) (n o : ℕ) → Searching st n o 0
-unfolding slot_from entries_of
-searching-start st n o = record { le = omega arith; rest = rw (zero-add, sub-zero n) }
-
-pub searching-end : {st : List ℕ} {n o i : ℕ} → Searching st n o i → n ≤ i → Slot st n o i
-unfolding slot_from slot
-searching-end {n = n} {i = i} s h =
-    let e : n - i ≡ 0 = omega arith in
-    record { place = sym (add-zero i) ∙ (rw e at s.rest); le = s.le }
-
-pub searching-hit : {st : List ℕ} {n o i r : ℕ} → Searching st n o i → i < n → Loaded 8 st (16 * i) r → r ≡ o → Slot st n o i
-unfolding slot_from slot word
-searching-hit {st} {n} {o} {i} s h l q =
-    record { place = sym (add-zero i) ∙ (rw (less n i h, eq-eqb (field 8 st (16 * i)) o (sym l.value ∙ q)) at s.rest); le = s.le }
-
-pub searching-step : {st : List ℕ} {n o i r : ℕ} → Searching st n o i → i < n → Loaded 8 st (16 * i) r → (r ≡ o → ⊥) → Searching st n o (i + 1)
-unfolding slot_from slot word
-searching-step {st} {n} {o} {i} s h l q =
-    let m : 16 * (i + 1) ≡ 16 * i + 16 = omega arith in
-    let t = rw (less n i h, ne_eqb (field 8 st (16 * i)) o (λ z. q (l.value ∙ z))) at s.rest in
-    record { le = omega arith; rest = rw m (omega (arith, t)) }
 
 pub fresh_added : (o : ℕ) (es : List Store) → added o es ≡ 1 → Fresh o es
 unfolding added

@@ -156,6 +156,6 @@ unfolding entries_of
 chase-end {st} {n} {o} c h =
     record { place = sym (slot-none n st 0 o (λ j b q. c.rest j (omega arith) b (ap (word st) (omega arith) ∙ q))); le = omega arith }
 
-pub slot-empty : (st : List ℕ) (n o : ℕ) → n ≡ 0 → Slot st n o 0
+pub slot-empty : (st : List ℕ) {n : ℕ} (o : ℕ) → n ≡ 0 → Slot st n o n
 unfolding entries_of slot
-slot-empty st n o e = record { place = rw e; le = omega arith }
+slot-empty st o e = record { place = rw e; le = omega arith }

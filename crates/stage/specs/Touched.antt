@@ -1,6 +1,6 @@
 -- Entries in lent staging memory (01, "Transactions"): where a word's entry stands, which words have none yet, and words touched there.
 -- Assumes nothing.
-use Rattle.std.specs.Prelude.{ℕ, zero, suc, ◌+◌, ◌*◌, ◌≤◌, ◌≡◌, cond, List, [], ◌∷◌, length, drop, eqb}
+use Rattle.std.specs.Prelude.{ℕ, zero, suc, ◌+◌, ◌*◌, ◌≤◌, ◌<◌, ◌≡◌, cond, Option, Some, None, List, [], ◌∷◌, length, drop, eqb}
 use Rattle.rules.specs.Staging.{Store, touch, touch_words}
 use Rattle.stage.specs.View.{entries_of}
 
@@ -13,6 +13,11 @@ slot o (x ∷ xs) = cond (eqb x.at o) 0 (suc (slot o xs))
 pub record Slot (st : List ℕ) (n o i : ℕ) : Type 0 where
   pub place : i ≡ slot o (entries_of st n)
   pub le : i ≤ n
+
+-- That place, if the word at o has an entry.
+abbrev pub Placed : List ℕ → ℕ → ℕ → Option ℕ → Type 0
+Placed st n o (Some i) = Slot st n o i × (i < n)
+Placed st n o None = Slot st n o n
 
 -- How many entries a touch of the word at o adds: one where it has none yet.
 unfoldable pub added : ℕ → List Store → ℕ

@@ -1,6 +1,6 @@
 -- Laws of the running sums: over parts in a row (`low-append`, `high-append`, `fed-append`), what the check is of them, and over a
--- block, not reduced before its end (`adding-step`, `fed-block`). Assumes nothing.
-use Prim.Native.Nat.{ℕ, suc, ◌+◌, ◌*◌, ◌<◌, ◌≤◌}
+-- block, with one remainder of each at its end (`adding-step`, `adding-end`). Assumes nothing.
+use Prim.Native.Nat.{ℕ, suc, ◌+◌, ◌*◌, ◌%◌, ◌<◌, ◌≤◌}
 use mathlib.Core.Path.{◌≡◌, refl, sym, ap, ap₂, ◌∙◌}
 use mathlib.Core.List.{List, [], ◌∷◌, ◌++◌}
 use native.Mathlib.Nat.{mul-add, suc-mul, zero-mul}
@@ -8,9 +8,9 @@ use native.Mathlib.Numerals.{add-one}
 use native.Mathlib.Omega.{arith}
 use lib.ListN.{length, drop, get_or}
 use lib.Seq.{drop-cons, drop-length}
-use Rattle.rules.specs.Check.{check, high, low, reduced, total, weighted}
+use Rattle.rules.specs.Check.{check, high, low, modulus, reduced, total, weighted}
 use Rattle.rules.proofs.Check.{high_sum, low_sum}
-use Rattle.sums.specs.Fed.{Added, Below, Fed, Started}
+use Rattle.sums.specs.Fed.{Below, Fed, Started}
 
 pub low-append : (a : ℕ) (xs ys : List ℕ) → low a (xs ++ ys) ≡ low (low a xs) ys
 unfolding low
@@ -63,24 +63,33 @@ adding-step {bs = bs} {l = l} {i = i} f k m e c =
       high_le = omega (arith, f.low-le, f.high_le);
     }
 
-pub adding-end : {a h : ℕ} {bs : List ℕ} {l g i : ℕ} → Adding a h bs l g i → length bs ≤ i → Added a h bs l g
-unfolding total weighted
-adding-end {bs = bs} {l = l} {i = i} f k =
+-- one remainder of each sum at the block's end
+pub adding-end : {a h : ℕ} {bs : List ℕ} {l g i : ℕ} → Adding a h bs l g i → Below a h → length bs ≤ i → Fed a h bs (l % modulus) (g % modulus)
+unfolding reduced total weighted
+adding-end {a} {h} {bs} {l} {g} {i} f s k =
     let e : i ≡ length bs = omega (arith, f.le) in
-    record { low-is = omega (arith, rw (e, drop-length) at f.low-is); high_is = omega (arith, rw (e, drop-length) at f.high_is, zero-mul l) }
-
--- ---- the loop over blocks
-
-pub fed-start : {a h : ℕ} → Below a h → Fed a h [] a h
-unfolding low high
-fed-start b = record { low-is = refl; high_is = refl; below = b }
-
--- a block's sums, reduced
-pub fed-block : {a h b g l k : ℕ} {bs : List ℕ} → Below a h → Added a h bs b g → (l ≡ reduced b) × (k ≡ reduced g) × Below l k → Fed a h bs l k
-unfolding reduced
-fed-block {a} {h} {bs = bs} s d r =
+    let m : l ≡ a + total bs = omega (arith, rw (e, drop-length) at f.low-is) in
+    let n : g ≡ h + length bs * a + weighted bs = omega (arith, rw (e, drop-length) at f.high_is, zero-mul l) in
     record {
-      low-is = r.0 ∙ ap reduced d.low-is ∙ sym (low_sum a bs s.low-lt);
-      high_is = r.1 ∙ ap reduced d.high_is ∙ sym (high_sum a h bs s.high_lt);
-      below = r.2;
+      low-is = ap reduced m ∙ sym (low_sum a bs s.low-lt);
+      high_is = ap reduced n ∙ sym (high_sum a h bs s.high_lt);
+      below = record { low-lt = omega arith; high_lt = omega arith };
     }
+
+-- ---- the loop over blocks: the sums b and g, with the bytes of rest to go
+
+pub record Feeding (a h : ℕ) (bs : List ℕ) (b g : ℕ) (rest : List ℕ) : Type 0 where
+  pub low-is : low b rest ≡ low a bs
+  pub high_is : high b g rest ≡ high a h bs
+
+pub feeding-step : {a h : ℕ} {bs : List ℕ} {b g : ℕ} {rest xs rest' : List ℕ} {c k : ℕ} → Feeding a h bs b g rest → rest ≡ xs ++ rest' → Fed b g xs c k → Feeding a h bs c k rest'
+feeding-step {b = b} {g} {xs = xs} {rest'} f e d =
+    record {
+      low-is = rw (d.low-is) (sym (low-append b xs rest') ∙ rw e at f.low-is);
+      high_is = rw (d.low-is, d.high_is) (sym (high-append b g xs rest') ∙ rw e at f.high_is);
+    }
+
+pub feeding-end : {a h : ℕ} {bs : List ℕ} {b g : ℕ} {rest : List ℕ} → Feeding a h bs b g rest → length rest ≡ 0 → Below b g → Fed a h bs b g
+unfolding low high
+feeding-end {rest = []} f e b = record { low-is = f.low-is; high_is = f.high_is; below = b }
+feeding-end {rest = x ∷ xs} f e b = absurd (omega arith)

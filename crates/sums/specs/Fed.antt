@@ -1,6 +1,6 @@
 -- What the running sums are, and the check brought up to date over a range of bytes (01, "The pool's bytes"). Assumes nothing.
-use Rattle.std.specs.Prelude.{ℕ, ◌+◌, ◌-◌, ◌*◌, ◌<◌, ◌≡◌, List, [], ◌∷◌, length}
-use Rattle.rules.specs.Check.{high as high_sum, low as low_sum, modulus, total, updated, weighted}
+use Rattle.std.specs.Prelude.{ℕ, ◌-◌, ◌<◌, ◌≡◌, List, [], ◌∷◌}
+use Rattle.rules.specs.Check.{high as high_sum, low as low_sum, modulus, updated}
 
 -- Each sum is below 65521.
 pub record Below (low high : ℕ) : Type 0 where
@@ -17,11 +17,6 @@ pub record Fed (low high : ℕ) (bs : List ℕ) (low' high' : ℕ) : Type 0 wher
   pub low-is : low' ≡ low_sum low bs
   pub high_is : high' ≡ high_sum low high bs
   pub below : Below low' high'
-
--- The sums low and high, after the bytes bs, not reduced.
-pub record Added (low high : ℕ) (bs : List ℕ) (low' high' : ℕ) : Type 0 where
-  pub low-is : low' ≡ low + total bs
-  pub high_is : high' ≡ high + length bs * low + weighted bs
 
 -- The bytes us become vs, one after the other; n bytes stand from the first of them on.
 unfoldable pub updated_range : ℕ → ℕ → List ℕ → List ℕ → ℕ

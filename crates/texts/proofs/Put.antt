@@ -1,21 +1,13 @@
 -- Text put piece by piece. Assumes nothing.
-use Prim.Native.Nat.{ℕ, ◌+◌, ◌≤◌, ◌<◌}
+use Prim.Native.Nat.{ℕ, ◌+◌, ◌≤◌}
 use mathlib.Core.Path.{◌≡◌, refl, sym, ap, ◌∙◌}
-use mathlib.Core.List.{List, [], ◌∷◌, ◌++◌}
-use native.Mathlib.Nat.{add_assoc, add-zero}
-use native.Mathlib.Numerals.{add-one}
+use mathlib.Core.List.{List, [], ◌++◌}
+use native.Mathlib.Nat.{add-zero}
 use native.Mathlib.Omega.{arith}
-use lib.ListN.{length, drop, get_or, set, length-append}
-use lib.Seq.{drop-cons, drop-length, sets, set_out, length-sets}
+use lib.ListN.{length, length-append}
+use lib.Seq.{sets, length-sets}
 use Rattle.rules.proofs.Sets.{sets-append}
 use Rattle.texts.specs.Put.{Put}
-
--- one byte, in the buffer or past its end
-pub put_in : (l : List ℕ) (a b : ℕ) → Put 1 l a (b ∷ []) (set l a b) (a + 1)
-put_in l a b = record { stored = refl; ends = refl; most = omega arith }
-
-pub put-out : (l : List ℕ) (a b : ℕ) → length l ≤ a → Put 1 l a (b ∷ []) l (a + 1)
-put-out l a b h = record { stored = sym (set_out l a b h); ends = refl; most = omega arith }
 
 -- a text, then another one
 pub put_then : {j k : ℕ} {l : List ℕ} {a : ℕ} {t l' : List ℕ} {r : ℕ} {u l'' : List ℕ} {r' : ℕ} → Put j l a t l' r → Put k l' r u l'' r' → Put (j + k) l a (t ++ u) l'' r'
@@ -51,22 +43,3 @@ putting-step {l} {a} {whole} {l'} {r} {t} {u} f p =
 
 pub putting-end : {l : List ℕ} {a : ℕ} {whole l' : List ℕ} {r : ℕ} {k : ℕ} → Putting l a whole l' r [] → r ≤ a + k → Put k l a whole l' r
 putting-end f h = record { stored = f.stores; ends = sym (add-zero _) ∙ f.ends; most = h }
-
--- the bytes of s one by one: i of them are put
-pub record Bytes (l : List ℕ) (a : ℕ) (s l' : List ℕ) (i : ℕ) : Type 0 where
-  pub le : i ≤ length s
-  pub putting : Putting l a s l' (a + i) (drop i s)
-
-pub bytes-start : (l : List ℕ) (a : ℕ) (s : List ℕ) → Bytes l a s l 0
-bytes-start l a s = record { le = omega arith; putting = rw (add-zero a) (putting-start l a s) }
-
-pub bytes-step : {l : List ℕ} {a : ℕ} {s l' : List ℕ} {i : ℕ} {l'' : List ℕ} {r : ℕ} → Bytes l a s l' i → i < length s → Put 1 l' (a + i) (get_or s i 0 ∷ []) l'' r → Bytes l a s l'' (i + 1)
-bytes-step {l} {a} {s} {l'} {i} {l''} {r} f h p =
-    let e : r ≡ a + (i + 1) = p.ends ∙ add_assoc a i 1 in
-    let d : drop i s ≡ (get_or s i 0 ∷ []) ++ drop (i + 1) s = rw (add-one, drop-cons s i 0 h) in
-    record { le = omega arith; putting = rw (← e) (putting-step (rw d at f.putting) p) }
-
-pub bytes-end : {l : List ℕ} {a : ℕ} {s l' : List ℕ} {i : ℕ} → Bytes l a s l' i → length s ≤ i → Put (length s) l a s l' (a + i)
-bytes-end {s = s} {i = i} f h =
-    let e : i ≡ length s = omega (arith, f.le) in
-    putting-end (rw (ap (λ (k : ℕ). drop k s) e ∙ drop-length s) at f.putting) (omega arith)

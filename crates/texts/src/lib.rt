@@ -1,32 +1,104 @@
 // Text and decimal numbers put into a buffer as snprintf does: a byte past the buffer's end is counted and left out.
 #![tactic(auto)]
 
-ghost use Rattle.std.specs.Prelude.{◌≡◌, [], ◌∷◌, ◌+◌, ◌<◌, length};
+ghost use Rattle.std.specs.Prelude.{◌≡◌, [], ◌∷◌, ◌+◌, ◌<◌, ◌≤◌, length};
 ghost use Rattle.rules.specs.Scan.{decimal};
-ghost use Rattle.texts.specs.Put.{between_text, pair_text, Put};
+ghost use Rattle.texts.specs.Put.{between_text, pair_text};
+ghost use Rattle.texts.specs.Adds.{Adds, held};
 
-// The byte `b` at `at`; the place behind it.
-fn put_byte(out: &mut [u8], at: usize, b: u8) -> usize
-    requires { at < 4294967296 }
-    ensures { Put 1 out.old at (b ∷ []) out.new result }
-{
-    if at < out.len() {
-        out[at] = b;
-    }
-    at + 1
+// A buffer, and the place behind the text put into it. Each `put_..` puts behind that text.
+#[derive(Drop)]
+pub struct Text<'a> {
+    out: &'a mut [u8],
+    at: usize,
 }
 
-// The bytes `s` from `at` on; the place behind them.
-pub fn put_bytes(out: &mut [u8], at: usize, s: &[u8]) -> usize
-    requires { at + length s.now < 4294967296 }
-    ensures { Put (length s.now) out.old at s.now out.new result }
-{
-    let mut i = 0;
-    while i < s.len() {
-        put_byte(out, at + i, s[i]);
-        i += 1;
+impl<'a> Text<'a> {
+    // No text yet: the buffer from its front on.
+    pub fn new(out: &'a mut [u8]) -> Text<'a>
+        ensures stored { result.out.now ≡ out.old }
+        ensures place { result.at ≡ 0 }
+        ensures buffer { result.out.ghost_name ≡ out.entry.ghost_name }
+    {
+        Text { out, at: 0 }
     }
-    at + i
+
+    // The length of the text, with what the buffer had no room for.
+    pub fn length(&self) -> usize
+        ensures { result ≡ self.now.at }
+    {
+        self.at
+    }
+
+    // The bytes of the text that the buffer has.
+    pub fn bytes(&self) -> &[u8]
+        ensures { result.now ≡ held self.now }
+    {
+        &self.out[..self.at.min(self.out.len())]
+    }
+
+    // The text's first `length` bytes alone.
+    pub fn truncate(&mut self, length: usize)
+        requires { length ≤ self.old.at }
+        ensures place { self.new.at ≡ length }
+        ensures buffer { self.new.out ≡ self.old.out }
+    {
+        self.at = length;
+    }
+
+    // The byte `b`.
+    fn put_byte(&mut self, b: u8)
+        requires { self.old.at < 4294967296 }
+        ensures { Adds 1 self.old (b ∷ []) self.new }
+    {
+        if self.at < self.out.len() {
+            self.out[self.at] = b;
+        }
+        self.at += 1;
+    }
+
+    // The bytes `s`.
+    pub fn put_bytes(&mut self, s: &[u8])
+        requires { self.old.at + length s.now < 4294967296 }
+        ensures { Adds (length s.now) self.old s.now self.new }
+    {
+        for &b in s {
+            self.put_byte(b);
+        }
+    }
+
+    // The number `n` in decimal. By hand: what `write!` puts is known of a String alone, which is on the heap.
+    pub fn put_number(&mut self, n: usize)
+        requires { (self.old.at + 10 < 4294967296) × (n < 10000000000) }
+        ensures { Adds 10 self.old (decimal n) self.new }
+    {
+        if n < 10 {
+            return self.put_byte(digit(n));
+        }
+        self.put_number(n / 10);
+        self.put_byte(digit(n % 10));
+    }
+
+    // The word, then the numbers `m` and `n`.
+    pub fn put_pair(&mut self, word: &[u8], m: usize, n: usize)
+        requires { (self.old.at + length word.now + 21 < 4294967296) × (m < 10000000000) × (n < 10000000000) }
+        ensures { Adds (length word.now + 21) self.old (pair_text word.now m n) self.new }
+    {
+        self.put_bytes(word);
+        self.put_number(m);
+        self.put_bytes(b" ");
+        self.put_number(n);
+    }
+
+    // The number `n` between the texts `front` and `end`.
+    pub fn put_between(&mut self, front: &[u8], n: usize, end: &[u8])
+        requires { (self.old.at + length front.now + 10 + length end.now < 4294967296) × (n < 10000000000) }
+        ensures { Adds (length front.now + 10 + length end.now) self.old (between_text front.now n end.now) self.new }
+    {
+        self.put_bytes(front);
+        self.put_number(n);
+        self.put_bytes(end);
+    }
 }
 
 // The decimal digit of `n`.
@@ -34,38 +106,5 @@ fn digit(n: usize) -> u8
     requires { n < 10 }
     ensures { result ≡ 48 + n }
 {
-    (48 + n) as u8
-}
-
-// The number `n` in decimal from `at` on; the place behind it.
-pub fn put_number(out: &mut [u8], at: usize, n: usize) -> usize
-    requires { (at + 10 < 4294967296) × (n < 10000000000) }
-    ensures { Put 10 out.old at (decimal n) out.new result }
-{
-    if n < 10 {
-        return put_byte(out, at, digit(n));
-    }
-    let next = put_number(out, at, n / 10);
-    put_byte(out, next, digit(n % 10))
-}
-
-// The word, then the numbers `m` and `n`; the place behind them.
-pub fn put_pair(out: &mut [u8], at: usize, word: &[u8], m: usize, n: usize) -> usize
-    requires { (at + length word.now + 21 < 4294967296) × (m < 10000000000) × (n < 10000000000) }
-    ensures { Put (length word.now + 21) out.old at (pair_text word.now m n) out.new result }
-{
-    let first = put_bytes(out, at, word);
-    let space = put_number(out, first, m);
-    let second = put_bytes(out, space, b" ");
-    put_number(out, second, n)
-}
-
-// The number `n` between the texts `front` and `end`; the place behind them.
-pub fn put_between(out: &mut [u8], at: usize, front: &[u8], n: usize, end: &[u8]) -> usize
-    requires { (at + length front.now + 10 + length end.now < 4294967296) × (n < 10000000000) }
-    ensures { Put (length front.now + 10 + length end.now) out.old at (between_text front.now n end.now) out.new result }
-{
-    let number = put_bytes(out, at, front);
-    let last = put_number(out, number, n);
-    put_bytes(out, last, end)
+    b'0' + n as u8
 }

@@ -39,8 +39,8 @@ pub field-byte : (p : List ℕ) (a : ℕ) → field 1 p a ≡ get_or p a 0
 unfolding field number
 field-byte p a = rw (add-zero a) (omega arith)
 
-pub loaded_byte : (p : List ℕ) (a : ℕ) → get_or p a 0 < 256 → Loaded 1 p a (get_or p a 0)
-loaded_byte p a h = record { value = sym (field-byte p a); small = h }
+pub loaded_byte : (p : List ℕ) (a : ℕ) {b : ℕ} → b ≡ get_or p a 0 → b < 256 → Loaded 1 p a b
+loaded_byte p a e h = record { value = e ∙ sym (field-byte p a); small = h }
 
 -- ---- stores
 

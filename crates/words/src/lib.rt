@@ -11,8 +11,10 @@ pub fn load8(s: &[u8], at: usize) -> u64
     requires { at < length s.now }
     ensures { Loaded 1 s.now at result }
 {
-    s[at] as u64
+    u64::from(s[at])
 }
+
+// The wider ones stand on halves. u64::from_le_bytes was tried and missed the speed: 122 entries were judged in 335 ns at best, in place of 263.
 
 // The 2 bytes from `at` on.
 pub fn load16(s: &[u8], at: usize) -> u64
@@ -37,6 +39,8 @@ pub fn load64(s: &[u8], at: usize) -> u64
 {
     load32(s, at) + 4294967296 * load32(s, at + 4)
 }
+
+// The stores too are assignments of bytes, by halves: a step rests on the compiler making one store of eight (rust/compare/tests/stores.rs).
 
 // The 2 low bytes of `v`, stored from `at` on.
 pub fn store16(s: &mut [u8], at: usize, v: u64)

@@ -1,14 +1,9 @@
 -- `pages::store` meets its contract. Assumes nothing.
-use mathlib.Core.Path.{refl}
-use Rattle.pages.proofs.Storing.{storing-start, storing-step, storing-end}
-use borrow.Author.Rules.{rules}
+use native.Mathlib.Omega.{arith}
+use Rattle.pages.proofs.Storing.{put_mid-sets}
 use Rattle.pages.proofs.store.Goals as goal
 
-pub loop-i-init : goal.loop-i-init
-loop-i-init c = storing-start _ _ _
-
-pub loop-i-preserved : goal.loop-i-preserved
-loop-i-preserved c = storing-step c.loop-i.invariant (search rules) refl refl
-
 pub returns : goal.returns
-returns c = storing-end c.loop-i.invariant (search rules)
+returns c =
+    let a = c.args in
+    rw (c.copy_from_slice.ensures.after) (put_mid-sets a.s.now a.at _ a.part.now c.requires (omega arith))

@@ -1,21 +1,26 @@
 -- `stage::entries_in` meets its contract. Assumes nothing.
-use mathlib.Core.Path.{refl}
-use mathlib.Core.Logic.{inl}
-use native.Mathlib.Omega.{arith}
-use Rattle.stage.proofs.Asked.{passing-start, passing_step, passing-end}
+use Rattle.std.proofs.Common.{rules, tests}
+use Rattle.std.proofs.lemmas.Iterator.Search.{any_from_yields_List}
+use Prim.Native.Nat.{◌-◌}
+use mathlib.Core.Path.{◌≡◌, refl, sym, ◌∙◌}
+use mathlib.Core.Bool.{false, ◌&&◌}
+use mathlib.Core.Logic.{inl, inr}
+use lib.Dec.{leb, ltb}
+use Rattle.std.specs.List.{list_any}
+use Rattle.rules.specs.Words.{word}
+use Rattle.stage.specs.View.{entries_of}
+use Rattle.stage.proofs.Pieces.{clear-none, left-start, yields-entries}
 use Rattle.stage.proofs.entries_in.Goals as goal
-use Rattle.stage.proofs.entries_in.Goals.{then-from-t+else-t-from, else-from-t}
 
-pub loop-i-init : goal.loop-i-init
-loop-i-init c = passing-start _ _ _ _
+pub returns-then-asked : goal.returns-then-asked
+returns-then-asked c = record { some = inl refl }
 
-pub returns-then-t-from : goal.returns-then-t-from
-returns-then-t-from c = record { some = inl refl }
-
-pub loop-i-preserved : goal.loop-i-preserved
-loop-i-preserved c =
-    passing_step c.loop-i.invariant c.loop-i-test.true c.load64-t.ensures
-    (λ h. elim c.if-from-t.branch [ then-from-t+else-t-from w ↦ omega arith | else-from-t w ↦ omega arith ])
-
-pub returns : goal.returns
-returns c = passing-end c.loop-i.invariant c.loop-i-test.false
+pub returns-else-asked : goal.returns-else-asked
+unfolding word
+returns-else-asked c =
+    let a = c.args in
+    let s = c.chunks_exact.ensures in
+    let e : false ≡ list_any (λ x. leb a.from x.at && ltb (x.at - a.from) a.n) (entries_of a.staging.now a.count) =
+    sym c.if-asked.false
+    ∙ any_from_yields_List (λ x. leb a.from x.at && ltb (x.at - a.from) a.n) _ _ _ c.any-asked.ensures.ran (yields-entries (left-start a.staging.now a.count _ c.requires s.size s.rest)) (λ x b q k. search (rules, tests)) in
+    record { some = inr (refl, clear-none a.from a.n (entries_of a.staging.now a.count) (sym e)) }

@@ -1,15 +1,15 @@
 -- `stage::entry_index` meets its contract. Assumes nothing.
-use Rattle.stage.proofs.Entries.{searching-start, searching-hit, searching-step, searching-end}
+use Rattle.std.proofs.Common.{rules, tests}
+use Rattle.std.proofs.lemmas.Iterator.Search.{position_from_yields_List}
+use lib.Dec.{eqb}
+use Rattle.rules.specs.Words.{word}
+use Rattle.stage.proofs.Pieces.{left-start, placed-found, yields-entries}
 use Rattle.stage.proofs.entry_index.Goals as goal
 
-pub loop-i-init : goal.loop-i-init
-loop-i-init c = searching-start _ _ _
-
-pub returns-then-load64-target : goal.returns-then-load64-target
-returns-then-load64-target c = searching-hit c.loop-i.invariant c.loop-i-test.true c.load64.ensures c.if-load64-target.true
-
-pub loop-i-preserved : goal.loop-i-preserved
-loop-i-preserved c = searching-step c.loop-i.invariant c.loop-i-test.true c.load64.ensures c.if-load64-target.false
-
 pub returns : goal.returns
-returns c = searching-end c.loop-i.invariant c.loop-i-test.false
+unfolding word
+returns c =
+    let a = c.args in
+    let s = c.chunks_exact.ensures in
+    placed-found a.staging.now a.count a.target c.position.result
+    (position_from_yields_List (λ x. eqb x.at a.target) _ _ _ c.position.ensures.ran (yields-entries (left-start a.staging.now a.count _ c.requires s.size s.rest)) (λ x b q k. search (rules, tests)))

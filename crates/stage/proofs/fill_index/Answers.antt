@@ -1,35 +1,26 @@
 -- `stage::fill_index` meets its contract. Assumes nothing.
-use mathlib.Core.Path.{◌≡◌, sym, ◌∙◌}
-use lib.ListN.{length-set}
-use Rattle.stage.proofs.Index.{chained-start, chained-step}
+use Prim.Native.Nat.{◌<◌}
 use native.Mathlib.Omega.{arith}
+use Rattle.std.specs.Iterator.Adapters.{enumerate_count, enumerate_source}
+use Rattle.stage.proofs.Index.{chained-step}
+use Rattle.stage.proofs.Pieces.{left-step, left-end}
 use Rattle.stage.proofs.fill_index.Goals as goal
-
-pub loop-i-init : goal.loop-i-init
-loop-i-init c = (chained-start _ c.requires.0, omega arith)
-
-pub bounds-index-k : goal.bounds-index-k
-bounds-index-k c = omega (arith, c.loop-i.invariant.0.long, c.mark_of-k.ensures.1)
-
-pub bounds-index-i : goal.bounds-index-i
-bounds-index-i c = omega (arith, c.loop-i.invariant.0.long, c.requires.1)
-
-pub overflow_cast-index : goal.overflow_cast-index
-overflow_cast-index c = omega (arith, c.requires.1)
-
-pub bounds-index-k-in-loop-i : goal.bounds-index-k-in-loop-i
-bounds-index-k-in-loop-i c = rw length-set (omega (arith, c.loop-i.invariant.0.long, c.mark_of-k.ensures.1))
 
 pub loop-i-preserved : goal.loop-i-preserved
 loop-i-preserved c =
-    let l = c.loop-i in
-    (chained-step l.invariant.0 (omega (arith, c.requires.1, c.loop-i-test.true)) c.load64.ensures c.mark_of-k.ensures.0 c.mark_of-k.ensures.1, omega arith)
-
-pub shape_of-index : goal.shape_of-index
-shape_of-index c = c.loop-i.invariant.0.long ∙ sym c.requires.0.long
+    let v = c.loop-i.invariant in
+    let p = c.in-Some.ensures.steps in
+    let s = left-step (enumerate_source c.next.new.self) c.in-Some.e v.le v.left p.0 in
+    let b : enumerate_count c.loop-i.i-iterator < c.args.count = s.0 in
+    let f : enumerate_count c.loop-i.i-iterator < 127 = omega (arith, b, c.requires.1) in
+    rw (p.1, p.2)
+    (record {
+      le = omega (arith, b);
+      left = s.2;
+      chained = chained-step v.chained f (s.1 _ c.load64.ensures) c.mark_of-k.ensures.0 c.mark_of-k.ensures.1;
+    })
 
 pub returns : goal.returns
 returns c =
-    let l = c.loop-i in
-    let e : l.i ≡ c.args.count = omega (arith, l.invariant.1, c.loop-i-test.false) in
-    record { chained = λ h. rw (← e) l.invariant.0 }
+    let v = c.loop-i.invariant in
+    record { chained = λ h. rw (← left-end (enumerate_source c.next.new.self) v.le v.left c.in-None.ensures.steps.0) v.chained }

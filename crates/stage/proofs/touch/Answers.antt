@@ -1,13 +1,13 @@
 -- `stage::touch` meets its contract. Assumes nothing.
-use Rattle.stage.proofs.Touched.{added-one, room-count, room-new, touched-old}
 use borrow.Author.Rules.{rules}
+use native.Mathlib.Omega.{arith}
+use Rattle.stage.proofs.Touched.{added-one, room-count, room-new, touched-old}
 use Rattle.stage.proofs.touch.Goals as goal
 
-pub returns-then-i-count : goal.returns-then-i-count
-returns-then-i-count c =
-    touched-old (room-count c.requires) (search rules) c.entry_index-i.ensures c.if-i-count.true c.store64.ensures
+pub returns-in-Some : goal.returns-in-Some
+returns-in-Some c = touched-old (room-count c.requires) (search rules) c.in-Some.ensures.0 c.in-Some.ensures.1 c.store64.ensures
 
 pub append-requires : goal.append-requires
 append-requires c =
-    let e = c.entry_index-i.ensures in
-    (room-new c.requires e c.if-i-count.false, added-one e c.if-i-count.false)
+    let e = rw c.in_default.is at c.entry_index.ensures in
+    (room-new c.requires e (omega arith), added-one e (omega arith))

@@ -1,11 +1,12 @@
 -- `sums::updated_range` meets its contract. Assumes nothing.
-use Prim.Native.Nat.{◌-◌}
-use lib.ListN.{length}
-use Rattle.sums.proofs.Range.{Updating}
+use Rattle.std.proofs.Common.{◌≡◌, ◌≤◌, length}
+use Rattle.std.specs.Iterator.Adapters.{zip_first, zip_second}
+use Rattle.std.specs.Slice.Iter.{iter_rest}
+use Rattle.sums.specs.Fed.{updated_range}
 use Rattle.sums.proofs.updated_range.Given as goal
 
-abbrev pub invariant-loop-i : goal.invariant-loop-i
-invariant-loop-i l = Updating l.check l.n l.old l.new l.sum l.left l.i
-
-abbrev pub decreases-loop-i : goal.decreases-loop-i
-decreases-loop-i l = length l.old - l.i
+abbrev pub invariant-loop-u : goal.invariant-loop-u
+invariant-loop-u l =
+    let us = iter_rest (zip_first l.u-iterator) in
+    let vs = iter_rest (zip_second l.u-iterator) in
+    (length us ≤ l.left) × (length vs ≡ length us) × (updated_range l.sum l.left us vs ≡ updated_range l.check l.n l.old l.new)

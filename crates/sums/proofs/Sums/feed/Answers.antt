@@ -1,18 +1,12 @@
 -- `Sums::feed` meets its contract. Assumes nothing.
-use native.Mathlib.Nat.{add-sub_cancel_left}
-use lib.Seq.{take-add, take_all}
-use Rattle.sums.proofs.Fed.{fed-start, fed-append, fed-block}
-use borrow.Author.Rules.{rules}
+use mathlib.Core.Path.{◌∙◌}
+use Rattle.sums.proofs.Fed.{feeding-step, feeding-end}
 use Rattle.sums.proofs.Sums.feed.Goals as goal
 
-pub loop-i-init : goal.loop-i-init
-loop-i-init c = (search rules, fed-start c.requires)
-
-pub loop-i-preserved : goal.loop-i-preserved
-loop-i-preserved c =
-    let l = c.loop-i in
-    let e = rw (add-sub_cancel_left l.i c.block_length-n.result) at c.add.ensures in
-    (search rules, rw (take-add l.i c.block_length-n.result) (fed-append l.invariant.1 (fed-block l.invariant.1.below e c.reduce-sums.ensures)))
+pub loop-block-preserved : goal.loop-block-preserved
+loop-block-preserved c =
+    let s = c.in-Some.ensures.steps in
+    (s.0 ∙ c.loop-block.invariant.0, feeding-step c.loop-block.invariant.1 s.1.0 c.add-sums.ensures)
 
 pub returns : goal.returns
-returns c = rw (take_all c.loop-i.i c.args.part.now (search rules)) at c.loop-i.invariant.1
+returns c = feeding-end c.loop-block.invariant.1 c.in-None.ensures.steps.1.0 c.loop-block.sums.below

@@ -1,11 +1,9 @@
 -- `Sums::feed` meets its contract. Assumes nothing.
-use Prim.Native.Nat.{◌-◌, ◌≤◌}
-use lib.ListN.{length, take}
-use Rattle.sums.specs.Fed.{Fed}
+use Rattle.std.specs.Slice.Iter.{chunks_rest, chunks_size}
+use Rattle.std.proofs.Common.{◌≡◌}
+use Rattle.sums.specs.declared.TheConstants.{BLOCK}
+use Rattle.sums.proofs.Fed.{Feeding}
 use Rattle.sums.proofs.Sums.feed.Given as goal
 
-abbrev pub invariant-loop-i : goal.invariant-loop-i
-invariant-loop-i l = (l.i ≤ length l.part) × Fed l.initial.sums.low l.initial.sums.high (take l.i l.part) l.sums.low l.sums.high
-
-abbrev pub decreases-loop-i : goal.decreases-loop-i
-decreases-loop-i l = length l.part - l.i
+abbrev pub invariant-loop-block : goal.invariant-loop-block
+invariant-loop-block l = (chunks_size l.block-iterator ≡ BLOCK) × Feeding l.initial.sums.low l.initial.sums.high l.part l.sums.low l.sums.high (chunks_rest l.block-iterator)

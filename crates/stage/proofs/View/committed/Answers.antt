@@ -1,0 +1,15 @@
+-- `stage::View::committed` meets its contract. Assumes nothing.
+use mathlib.Core.Path.{refl}
+use Rattle.stage.proofs.Index.{indexed-none}
+use Rattle.stage.proofs.Seen.{seen_none}
+use Rattle.stage.proofs.Views.{tidy-none}
+use Rattle.stage.proofs.View.committed.Goals as goal
+
+pub invariant_of-result-clause-tidy : goal.invariant_of-result-clause-tidy
+invariant_of-result-clause-tidy c = tidy-none _
+
+pub invariant_of-result-clause-indexed : goal.invariant_of-result-clause-indexed
+invariant_of-result-clause-indexed c = indexed-none _ _
+
+pub returns : goal.returns
+returns c = record { pool = refl; count = refl; shows = seen_none _ _ }

@@ -1,5 +1,0 @@
--- The measure of `texts::put_number` is the number.
-use Rattle.texts.proofs.+put_number.Given as goal
-
-abbrev pub decreases-put_number : goal.decreases-put_number
-decreases-put_number l = l.n

@@ -1,43 +1,53 @@
 -- Differing bytes counted, a place or a block more at a time; bytes replaced and those that differ counted. Assumes nothing.
-use Prim.Native.Nat.{ℕ, ◌+◌, ◌-◌, ◌≤◌, ◌<◌}
-use mathlib.Core.Path.{◌≡◌, refl, sym, ap, ap₂, ◌∙◌}
-use mathlib.Core.List.{List}
-use native.Mathlib.Nat.{add-sub_cancel_left, add-zero}
+use Prim.Native.Nat.{ℕ, ◌+◌, ◌-◌, ◌≤◌}
+use mathlib.Core.Path.{◌≡◌, refl, sym, ap, ◌∙◌}
+use mathlib.Core.Bool.{cond}
+use mathlib.Core.List.{List, [], ◌∷◌, ◌++◌}
+use native.Mathlib.Nat.{add-sub_cancel_left, add-zero, zero-add}
 use native.Mathlib.Omega.{arith}
 use borrow.Author.Tests.{eq-eqb, ne_eqb}
-use lib.ListN.{length, take, drop, get_or}
-use lib.Seq.{sets, length-take-le, take_all}
+use lib.Dec.{eqb}
+use lib.ListN.{length, take, drop, length-append}
+use lib.Seq.{sets}
 use Rattle.rules.specs.Repair.{differences}
 use Rattle.rules.proofs.Parts.{part_length}
-use Rattle.rules.proofs.Differences.{differences-most, differences-place, differences-stored, differences-take}
+use Rattle.rules.proofs.Differences.{differences-append, differences-most, differences-stored}
 
--- n of the first i places differ
-pub record Counting (xs ys : List ℕ) (i n : ℕ) : Type 0 where
-  pub le : i ≤ length xs
-  pub count : n ≡ differences (take i xs) (take i ys)
+-- of xs and ys, us and vs are left; n places before them differ
+pub record Counting (xs ys us vs : List ℕ) (n : ℕ) : Type 0 where
+  pub same : length us ≡ length vs
+  pub count : n + differences us vs ≡ differences xs ys
 
-pub counting-start : (xs ys : List ℕ) → Counting xs ys 0 0
-unfolding differences
-counting-start xs ys = record { le = omega arith; count = refl }
+pub counting-start : (xs ys : List ℕ) → length xs ≡ length ys → Counting xs ys xs ys 0
+counting-start xs ys e = record { same = e; count = zero-add (differences xs ys) }
 
-module _ {xs ys : List ℕ} {i n : ℕ} (c : Counting xs ys i n) where
-  pub counting-few : n ≤ i
-  counting-few = let h = differences-most (take i xs) (take i ys) in let l = length-take-le i xs c.le in let e = c.count in omega arith
+module _ {xs ys us vs : List ℕ} {n : ℕ} (c : Counting xs ys us vs n) where
+  pub counting-few : n + differences us vs ≤ length xs
+  counting-few = let h = differences-most xs ys in let e = c.count in omega arith
 
-  module _ (e : length xs ≡ length ys) where
-    -- a block more, in which k places differ
-    pub counting-block : (m k : ℕ) → i + m ≤ length xs → k ≡ differences (take m (drop i xs)) (take m (drop i ys)) → Counting xs ys (i + m) (n + k)
-    counting-block m k h d = record { le = h; count = ap₂ ◌+◌ c.count d ∙ sym (differences-take xs ys i m e c.le) }
+  -- a block more
+  pub counting-block : (bs ds us' vs' : List ℕ) → us ≡ bs ++ us' → vs ≡ ds ++ vs' → length bs ≡ length ds → Counting xs ys us' vs' (n + differences bs ds)
+  counting-block bs ds us' vs' e f l =
+      let s : length (bs ++ us') ≡ length (ds ++ vs') = rw (e, f) at c.same in
+      record {
+        same = omega (arith, length-append bs us', length-append ds vs');
+        count = let k : n + differences (bs ++ us') (ds ++ vs') ≡ differences xs ys = rw (e, f) at c.count in omega (arith, differences-append bs ds us' vs' l);
+      }
 
-    pub counting-differs : i < length xs → (get_or xs i 0 ≡ get_or ys i 0 → ⊥) → Counting xs ys (i + 1) (n + 1)
-    counting-differs h d = counting-block 1 1 (omega arith) (sym (differences-place xs ys i e h ∙ rw (ne_eqb (get_or xs i 0) (get_or ys i 0) d)))
+  -- a place more
+  module _ {x y : ℕ} {us' vs' : List ℕ} (e : us ≡ x ∷ us') (f : vs ≡ y ∷ vs') where
+    place : Counting xs ys us' vs' (n + cond (eqb x y) 0 1)
+    unfolding differences
+    place = rw (add-zero (cond (eqb x y) 0 1)) at (counting-block (x ∷ []) (y ∷ []) us' vs' e f refl)
 
-    pub counting-same : i < length xs → get_or xs i 0 ≡ get_or ys i 0 → Counting xs ys (i + 1) n
-    counting-same h d =
-        rw (← (add-zero n)) (counting-block 1 0 (omega arith) (sym (differences-place xs ys i e h ∙ rw (eq-eqb (get_or xs i 0) (get_or ys i 0) d))))
+    pub counting-differs : (x ≡ y → ⊥) → Counting xs ys us' vs' (n + 1)
+    counting-differs d = rw (ne_eqb x y d) at place
 
-    pub counting-end : length xs ≡ i → n ≡ differences xs ys
-    counting-end h = c.count ∙ ap₂ differences (take_all i xs (omega arith)) (take_all i ys (omega arith))
+    pub counting-same : x ≡ y → Counting xs ys us' vs' n
+    counting-same d = rw (eq-eqb x y d, add-zero n) at place
+
+  pub counting-end : length us ≡ 0 → n ≡ differences xs ys
+  counting-end h = let k = differences-most us vs in let e = c.count in omega arith
 
 -- ---- the n bytes of p from a on replaced
 

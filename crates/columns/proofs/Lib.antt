@@ -1,3 +1,4 @@
+pub mod Storing
 pub mod Rows
 pub mod Pages
 pub mod Counting

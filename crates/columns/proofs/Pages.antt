@@ -20,7 +20,7 @@ use Rattle.rules.proofs.Repair.{tab-at, tab-cong, tab-length}
 use Rattle.rules.proofs.Scrub.{all-cong}
 use Rattle.rules.proofs.Zeros.{or-zero}
 use Rattle.rules.proofs.Xor.{skip-else, xor_to-cong}
-use Rattle.pages.proofs.Storing.{Storing, storing-end}
+use Rattle.columns.proofs.Storing.{Storing, storing-end}
 use Rattle.columns.specs.Column.{other_byte, row_byte, rows_zero, xored, zeros}
 
 -- ---- one more byte

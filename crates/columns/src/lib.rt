@@ -1,4 +1,5 @@
-// The rows of a column (01, "The pool's bytes"): their exclusive or, a page rebuilt from the others, a column's parity judged.
+// The rows of a column (01, "The pool's bytes"): their exclusive or, a page rebuilt from the others, a column's parity judged. Place, stride and rows go
+// beside the pool: a value of them would be made for one call each.
 #![tactic(auto)]
 
 ghost use Rattle.std.specs.Prelude.{◌≡◌, ◌+◌, ◌*◌, ◌≤◌, ◌<◌, min, length, replicate};
@@ -10,29 +11,31 @@ ghost use Rattle.columns.specs.Column.{RowsFit, Word, other_byte, row_word, rows
 
 use layout::Shape;
 
-// The exclusive or of the words at `at` in all rows.
+// The exclusive or of the words at `at` in all rows. By the row's number, which gives its place: chunks of a stride would run on into the next
+// row.
 pub fn xor_rows(pool: &[u8], at: usize, stride: usize, rows: usize) -> u64
     requires { RowsFit pool.now at stride rows 8 }
     ensures { Word (xor_to rows (row_word pool.now at stride)) result }
 {
     let mut acc: u64 = 0;
     for k in 0..rows {
-        acc = acc ^ words::load64(pool, at + k * stride);
+        acc ^= words::load64(pool, at + k * stride);
     }
     acc
 }
 
-// `sum` becomes the exclusive or of itself and the pool's bytes from `at` on.
+// `sum` becomes the exclusive or of itself and the pool's bytes from `at` on. By index: behind a zip of iter_mut no byte is known to the check.
 fn xor_page(sum: &mut [u8], pool: &[u8], at: usize)
     requires { at + length sum.old ≤ length pool.now }
     ensures { sum.new ≡ xored sum.old pool.now at }
 {
     for i in 0..sum.len() {
-        sum[i] = sum[i] ^ pool[at + i];
+        sum[i] ^= pool[at + i];
     }
 }
 
-// `sum`, zero at first, becomes the exclusive or of the pages at `at` in all rows but the one left out.
+// `sum`, zero at first, becomes the exclusive or of the pages at `at` in all rows but the one left out. By the row's number: one row is left out
+// by it.
 fn xor_pages(sum: &mut [u8], pool: &[u8], at: usize, stride: usize, rows: usize, without: usize)
     requires { (sum.old ≡ replicate (length sum.old) 0) × (RowsFit pool.now at stride rows (length sum.old)) }
     ensures { sum.new ≡ tab_from 0 (length sum.old) (other_byte pool.now at stride rows without) }
@@ -49,18 +52,14 @@ fn all_zero(s: &[u8]) -> bool
     ensures { result ≡ zeros s.now (length s.now) }
 {
     let mut any = 0u8;
-    for i in 0..s.len() {
-        any = any | s[i];
+    for &byte in s {
+        any |= byte;
     }
     any == 0
 }
 
-// How many bytes are compared next, of `left`: the differences of 128 fit into 8 bits.
-fn block_length(left: usize) -> usize
-    ensures { result ≡ min left 128 }
-{
-    if left < 128 { left } else { 128 }
-}
+// Bytes compared at once: the differences of so many fit into 8 bits.
+const BLOCK: usize = 128;
 
 // At how many places two blocks differ. The loop has no way out before its end, and the number has 8 bits, so that the compiler compares many
 // bytes at once.
@@ -69,8 +68,8 @@ fn count_block(before: &[u8], after: &[u8]) -> u8
     ensures { result ≡ differences before.now after.now }
 {
     let mut n = 0u8;
-    for i in 0..before.len() {
-        if before[i] != after[i] {
+    for (x, y) in before.iter().zip(after) {
+        if x != y {
             n += 1;
         }
     }
@@ -83,11 +82,8 @@ fn count_differences(before: &[u8], after: &[u8]) -> usize
     ensures { result ≡ differences before.now after.now }
 {
     let mut total = 0;
-    let mut i = 0;
-    while i < before.len() {
-        let end = i + block_length(before.len() - i);
-        total += count_block(&before[i..end], &after[i..end]) as usize;
-        i = end;
+    for (x, y) in before.chunks(BLOCK).zip(after.chunks(BLOCK)) {
+        total += usize::from(count_block(x, y));
     }
     total
 }

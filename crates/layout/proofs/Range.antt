@@ -7,21 +7,28 @@ use native.Mathlib.Nat.{add-mul, mul-le-mul, mul-le-mul_right}
 use native.Mathlib.Omega.{arith}
 use lib.ListN.{get_or}
 use Rattle.rules.specs.Shape.{InZones, Shape as PoolShape, byte_at, off, page_size, pool_size, row_at, row_size, shape, zone, zone_at, zones_at}
-use Rattle.rules.specs.Header.{header_ok, header_shape, in_range}
+use Rattle.rules.specs.Header.{header_ok, header_shape, in_range as ranges}
 use Rattle.rules.proofs.Bool.{split}
 use Rattle.rules.proofs.Shape.{Good, off-lt, zone-end, zone-lt}
 use Rattle.rules.proofs.Header.{header-range, range-good, range-ranged}
 use Rattle.layout.specs.declared.Shape.{Shape}
-use Rattle.layout.specs.declared.Made.{Made}
-use Rattle.layout.specs.declared.Made.TheVariants.{Good as MadeGood, OutOfRange}
-use Rattle.layout.specs.Meaning.{InRange, checked, good, made_of, refused, shape_of}
+use Rattle.std.proofs.Common.{Result, Ok, Err}
+use Rattle.std.specs.Result.{IsOk}
+use Rattle.refusals.specs.declared.Refusal.{Refusal}
+use Rattle.refusals.specs.Number.{number_of}
+use Rattle.layout.specs.Meaning.{InRange, checked, checked_of, good, refused, shape_of}
 
-pub shape-good : (s : Shape) → InRange (shape_of s) → Good (shape_of s)
-shape-good s r = range-good (shape_of s) r.paged r.ranged
+-- each shape is in range
+pub in_range : (s : Shape) → InRange (shape_of s)
+unfolding ranges
+in_range s = record { ranged = s.ranged; paged = s.paged }
+
+pub shape-good : (s : Shape) → Good (shape_of s)
+shape-good s = let r = in_range s in range-good (shape_of s) r.paged r.ranged
 
 -- the largest page
-pub page-most : (s : Shape) → InRange (shape_of s) → s.page ≤ page_size
-page-most s r = let e = r.paged in omega arith
+pub page-most : (s : Shape) → s.page ≤ page_size
+page-most s = let e = s.paged in omega arith
 
 -- ---- what the numbers of a shape in range amount to
 
@@ -45,10 +52,10 @@ pub record Bounds (page rows cols zones : ℕ) : Type 0 where
   pub pages : rows * cols ≤ 960
   pub cells : rows * cols * (page / 64) ≤ 61440
 
-pub bounds : (s : Shape) → InRange (shape_of s) → Bounds s.page s.rows s.cols s.zones
-bounds s r =
-    let b = range-ranged (shape_of s) r.ranged in
-    let e = r.paged in
+pub bounds : (s : Shape) → Bounds s.page s.rows s.cols s.zones
+bounds s =
+    let b = range-ranged (shape_of s) (in_range s).ranged in
+    let e = s.paged in
     let more : s.rows + 1 ≤ 16 = omega arith in
     let few : 2 ≤ s.rows + 1 = omega arith in
     let low : 256 ≤ s.page = omega arith in
@@ -77,10 +84,10 @@ bounds s r =
     }
 
 -- a pool has more than the header pages and the logs, and its length is far below 2^32
-pub size-bounds : (s : Shape) → InRange (shape_of s) → (zones_at (shape_of s) + 2 * s.page ≤ pool_size (shape_of s)) × (pool_size (shape_of s) ≤ 67182592)
+pub size-bounds : (s : Shape) → (zones_at (shape_of s) + 2 * s.page ≤ pool_size (shape_of s)) × (pool_size (shape_of s) ≤ 67182592)
 unfolding pool_size
-size-bounds s r =
-    let b = bounds s r in
+size-bounds s =
+    let b = bounds s in
     let low : (18 + 2) * s.page ≤ (18 + s.zones * (s.rows + 1) * s.cols) * s.page = mul-le-mul_right s.page (let k = b.some-pages in omega arith) in
     let k : 18 + s.zones * (s.rows + 1) * s.cols ≤ 16402 = (let h = b.all-pages in omega arith) in
     let high : (18 + s.zones * (s.rows + 1) * s.cols) * s.page ≤ 16402 * 4096 = mul-le-mul k b.page-high in
@@ -88,12 +95,12 @@ size-bounds s r =
 
 -- ---- places
 
-pub zones-below : (s : Shape) → InRange (shape_of s) → (z : ℕ) → z ≤ s.zones → z * ((s.rows + 1) * (s.cols * s.page)) ≤ 16 * 4194304
-zones-below s r z h = let b = bounds s r in mul-le-mul (let k : z ≤ 16 = (let l = b.zones-high in omega arith) in k) b.zone
+pub zones-below : (s : Shape) → (z : ℕ) → z ≤ s.zones → z * ((s.rows + 1) * (s.cols * s.page)) ≤ 16 * 4194304
+zones-below s z h = let b = bounds s in mul-le-mul (let k : z ≤ 16 = (let l = b.zones-high in omega arith) in k) b.zone
 
-pub zone-at-le : (s : Shape) → InRange (shape_of s) → (z : ℕ) → z ≤ s.zones → zone_at (shape_of s) z ≤ pool_size (shape_of s)
+pub zone-at-le : (s : Shape) → (z : ℕ) → z ≤ s.zones → zone_at (shape_of s) z ≤ pool_size (shape_of s)
 unfolding zone_at
-zone-at-le s r z h = let e = zone-end (shape_of s) (shape-good s r) in let m = mul-le-mul_right ((s.rows + 1) * (s.cols * s.page)) h in omega arith
+zone-at-le s z h = let e = zone-end (shape_of s) (shape-good s) in let m = mul-le-mul_right ((s.rows + 1) * (s.cols * s.page)) h in omega arith
 
 -- the number of a row, and of its first byte behind the zones' start
 pub record RowBounds (page rows cols z r : ℕ) : Type 0 where
@@ -101,9 +108,9 @@ pub record RowBounds (page rows cols z r : ℕ) : Type 0 where
   pub number : z * (rows + 1) + r ≤ 255
   pub place : (z * (rows + 1) + r) * (cols * page) ≤ 255 * 262144
 
-pub row-bounds : (s : Shape) → InRange (shape_of s) → {z r : ℕ} → z < s.zones → r ≤ s.rows → RowBounds s.page s.rows s.cols z r
-row-bounds s h {z} {r} hz hr =
-    let b = bounds s h in
+pub row-bounds : (s : Shape) → {z r : ℕ} → z < s.zones → r ≤ s.rows → RowBounds s.page s.rows s.cols z r
+row-bounds s {z} {r} hz hr =
+    let b = bounds s in
     let a : z ≤ 15 = (let k = b.zones-high in omega arith) in
     let c : s.rows + 1 ≤ 16 = (let k = b.rows-high in omega arith) in
     let m : z * (s.rows + 1) ≤ 15 * 16 = mul-le-mul a c in
@@ -124,43 +131,46 @@ module _ (sh : PoolShape) (g : Good sh) where
 
 -- ---- the constructor
 
-module _ (b : Bool) (R C Z : ℕ) (e : b ≡ in_range (shape R C Z)) where
-  pub new-good : b ≡ true → made_of (MadeGood (record { page = 256; rows = R; cols = C; zones = Z })) ≡ checked (shape R C Z)
+module _ (R C Z : ℕ) (b : Bool) (e : b ≡ ranges (shape R C Z)) where
+  pub new-good : b ≡ true → good (shape R C Z) ≡ checked (shape R C Z)
   unfolding checked
   new-good h = rw (← e, h)
 
-  pub new-out : b ≡ false → made_of OutOfRange ≡ checked (shape R C Z)
+  pub new-out : b ≡ false → refused 1 ≡ checked (shape R C Z)
   unfolding checked
   new-out h = rw (← e, h)
 
 -- what its answers say
-module _ (r : Made) (sh : PoolShape) (e : made_of r ≡ checked sh) where
-  pub made-good : sh.page ≡ page_size → (s : Shape) → r ≡ MadeGood s → (shape_of s ≡ sh) × InRange (shape_of s)
-  unfolding checked
-  made-good g s h =
-      let k : good (shape_of s) ≡ checked sh = sym (ap made_of h) ∙ e in
-      split (in_range sh)
-      (λ t. let q : good (shape_of s) ≡ good sh = rw t at k in let m : shape_of s ≡ sh = cc in (m, record { ranged = ap in_range m ∙ t; paged = ap (λ (x : PoolShape). x.page) m ∙ g }))
-      (λ f. absurd (let q : good (shape_of s) ≡ refused 1 = rw f at k in let z : ◌≡◌ {A = ℕ} 0 1 = cc in omega arith))
+pub made-good : (sh t : PoolShape) → good t ≡ checked sh → (t ≡ sh) × (ranges sh ≡ true)
+unfolding checked
+made-good sh t e =
+    split (ranges sh)
+    (λ y. let q : good t ≡ good sh = rw y at e in (cc, y))
+    (λ f. absurd (let q : good t ≡ refused 1 = rw f at e in let z : ◌≡◌ {A = ℕ} 0 1 = cc in omega arith))
 
-  pub made-out : r ≡ OutOfRange → in_range sh ≡ false
-  unfolding checked
-  made-out h =
-      let k : refused 1 ≡ checked sh = sym (ap made_of h) ∙ e in
-      split (in_range sh) (λ t. absurd (let q : refused 1 ≡ good sh = rw t at k in let z : ◌≡◌ {A = ℕ} 0 1 = cc in omega arith)) (λ f. f)
+pub made-out : (sh : PoolShape) (n : ℕ) → refused n ≡ checked sh → (ranges sh ≡ false) × (n ≡ 1)
+unfolding checked
+made-out sh n e =
+    split (ranges sh)
+    (λ t. absurd (let q : refused n ≡ good sh = rw t at e in let z : ◌≡◌ {A = ℕ} 0 1 = cc in omega arith))
+    (λ f. let q : refused n ≡ refused 1 = rw f at e in (f, cc))
 
 -- ---- a header's shape
 
-module _ (h : List ℕ) (R C Z : ℕ) (r : Made) (e : R ≡ get_or h 4 0) (f : C ≡ get_or h 5 0) (g : Z ≡ get_or h 6 0) (m : made_of r ≡ checked (shape R C Z)) where
-  header-checked : made_of r ≡ checked (header_shape h)
+module _ (h : List ℕ) (R C Z : ℕ) (e : R ≡ get_or h 4 0) (f : C ≡ get_or h 5 0) (g : Z ≡ get_or h 6 0) where
+  header-checked : shape R C Z ≡ header_shape h
   unfolding header_shape
-  header-checked = m ∙ rw (e, f, g)
+  header-checked = rw (e, f, g)
 
-  pub header_made : (s : Shape) → r ≡ MadeGood s → (shape_of s ≡ header_shape h) × InRange (shape_of s)
-  header_made s q = made-good r (header_shape h) header-checked (unfold header_shape in refl) s q
+  pub header_made : (t : PoolShape) → good t ≡ checked (shape R C Z) → t ≡ header_shape h
+  header_made t m = (made-good (shape R C Z) t m).0 ∙ header-checked
 
   -- a valid header's is made
-  pub header-out : header_ok h ≡ true → r ≡ OutOfRange → ⊥
-  header-out ok q =
-      let z : true ≡ false = sym (header-range h ok) ∙ made-out r (header_shape h) header-checked q in
+  header-out : header_ok h ≡ true → (n : ℕ) → refused n ≡ checked (shape R C Z) → ⊥
+  header-out ok n m =
+      let z : true ≡ false = sym (header-range h ok) ∙ ap ranges (sym header-checked) ∙ (made-out (shape R C Z) n m).0 in
       let y : ◌≡◌ {A = ℕ} 0 1 = cc in omega arith
+
+  pub header-some : header_ok h ≡ true → (r : Result Shape Refusal) → checked_of r ≡ checked (shape R C Z) → IsOk r
+  header-some ok (Ok s) m = refl
+  header-some ok (Err x) m = absurd (header-out ok (number_of x) m)

@@ -1,35 +1,30 @@
-// The pool's shape (01, "The pool's bytes"), its constants and checked constructor; a pool opened, and its id.
+// The pool's shape (01, "The pool's bytes"), its constants and checked constructor.
 #![tactic(auto)]
 
-ghost use Rattle.std.specs.Prelude.{◌≡◌, true, false, ◌*◌, ◌≤◌, ◌<◌, length};
+ghost use Rattle.std.specs.Prelude.{◌≡◌, true, ◌*◌, ◌≤◌, ◌<◌};
 ghost use Rattle.rules.specs.Shape.{InZones, body_limit, byte_at, entry_limit, log_a, log_b, page_size, pool_size, row_at, row_size, shape, staging_size, zone_at, zone_cells, zone_size, zones_at};
-ghost use Rattle.rules.specs.Header.{header_ok, id_in, page_at, same};
-ghost use Rattle.layout.specs.Meaning.{InRange, checked, made_of, opened, opened_by, shape_of};
+ghost use Rattle.rules.specs.Header.{in_range};
 
-// Bytes of a page, data rows of a zone, pages of a row, zones.
+use refusals::Refusal;
+
+mod opened; // a pool opened, and its id
+
+pub use opened::{Pool, id, open};
+
+// Bytes of a page, data rows of a zone, pages of a row, zones: each in its range, and the page that of a version 1 header.
 #[derive(Clone, Copy)]
 pub struct Shape {
     pub page: usize,
     pub rows: usize,
     pub cols: usize,
     pub zones: usize,
-}
-
-// A checked shape, or refusal 1.
-#[derive(Clone, Copy)]
-pub enum Made {
-    Good(Shape),
-    OutOfRange,
-}
-
-// A pool opened: its shape, or the refusal's number.
-#[derive(Clone, Copy)]
-pub enum Opened {
-    Good(Shape),
-    Refused(u8),
+    pub ghost ranged: { in_range (shape rows cols zones) ≡ true },
+    pub ghost paged: { page ≡ page_size },
 }
 
 impl Shape {
+    ghost use Rattle.layout.specs.Meaning.{checked, checked_of, shape_of};
+
     // Bytes of a page.
     pub const PAGE: usize = 256;
     // Entries of a log or a transaction, at most.
@@ -40,24 +35,23 @@ impl Shape {
     pub const STAGING: usize = 2032;
 
     // The shape with these numbers, or refusal 1: one is not in its range. The second clause ties the constants to 01's limits.
-    pub fn new(rows: usize, cols: usize, zones: usize) -> Made
-        ensures result_value { made_of result ≡ checked (shape rows cols zones) }
+    pub fn new(rows: usize, cols: usize, zones: usize) -> Result<Shape, Refusal>
+        ensures result_value { checked_of result ≡ checked (shape rows cols zones) }
         ensures limits { (Shape.PAGE ≡ page_size) × (Shape.ENTRIES ≡ entry_limit) × (Shape.BODY ≡ body_limit) × (Shape.STAGING ≡ staging_size) }
     {
-        if header::in_range(rows, cols, zones) {
-            return Made::Good(Shape {
-                page: Shape::PAGE,
-                rows,
-                cols,
-                zones,
-            });
+        if !header::in_range(rows, cols, zones) {
+            return Err(Refusal::Shape);
         }
-        Made::OutOfRange
+        Ok(Shape {
+            page: Shape::PAGE,
+            rows,
+            cols,
+            zones,
+        })
     }
 
     // The pool's length.
     pub fn size(self) -> usize
-        requires { InRange (shape_of self) }
         ensures { result ≡ pool_size (shape_of self) }
     {
         (18 + self.zones * (self.rows + 1) * self.cols) * self.page
@@ -65,7 +59,6 @@ impl Shape {
 
     // Where log A begins.
     pub fn log_a(self) -> usize
-        requires { InRange (shape_of self) }
         ensures { result ≡ log_a (shape_of self) }
     {
         2 * self.page
@@ -73,7 +66,6 @@ impl Shape {
 
     // Where log B begins.
     pub fn log_b(self) -> usize
-        requires { InRange (shape_of self) }
         ensures { result ≡ log_b (shape_of self) }
     {
         10 * self.page
@@ -81,7 +73,6 @@ impl Shape {
 
     // Where the zones begin.
     pub fn zones_at(self) -> usize
-        requires { InRange (shape_of self) }
         ensures { result ≡ zones_at (shape_of self) }
     {
         18 * self.page
@@ -89,7 +80,6 @@ impl Shape {
 
     // Bytes of a row.
     pub fn row_size(self) -> usize
-        requires { InRange (shape_of self) }
         ensures { result ≡ row_size (shape_of self) }
     {
         self.cols * self.page
@@ -97,7 +87,6 @@ impl Shape {
 
     // Bytes of a zone.
     pub fn zone_size(self) -> usize
-        requires { InRange (shape_of self) }
         ensures { result ≡ zone_size (shape_of self) }
     {
         (self.rows + 1) * (self.cols * self.page)
@@ -105,7 +94,6 @@ impl Shape {
 
     // The cells of a zone.
     pub fn cells(self) -> usize
-        requires { InRange (shape_of self) }
         ensures { (result ≡ zone_cells (shape_of self)) × (result < 65536) }
     {
         self.rows * self.cols * (self.page / 64)
@@ -113,7 +101,7 @@ impl Shape {
 
     // Where zone `z` begins.
     pub fn zone_at(self, z: usize) -> usize
-        requires { InRange (shape_of self) × (z ≤ self.zones) }
+        requires { z ≤ self.zones }
         ensures { (result ≡ zone_at (shape_of self) z) × (result ≤ pool_size (shape_of self)) }
     {
         18 * self.page + z * ((self.rows + 1) * (self.cols * self.page))
@@ -121,7 +109,7 @@ impl Shape {
 
     // The place of byte `o` of row `r` of zone `z`.
     pub fn byte_at(self, z: usize, r: usize, o: usize) -> usize
-        requires { InRange (shape_of self) × (z < self.zones) × (r ≤ self.rows) × (o < row_size (shape_of self)) }
+        requires { (z < self.zones) × (r ≤ self.rows) × (o < row_size (shape_of self)) }
         ensures { result ≡ byte_at (shape_of self) z r o }
     {
         18 * self.page + ((z * (self.rows + 1) + r) * (self.cols * self.page) + o)
@@ -129,7 +117,7 @@ impl Shape {
 
     // The place of column `c` of zone `z` in the first row.
     pub fn column_at(self, z: usize, c: usize) -> usize
-        requires { InRange (shape_of self) × (z < self.zones) × (c < self.cols) }
+        requires { (z < self.zones) × (c < self.cols) }
         ensures { result ≡ byte_at (shape_of self) z 0 (c * self.page) }
     {
         self.byte_at(z, 0, c * self.page)
@@ -137,87 +125,11 @@ impl Shape {
 
     // The place in row `r` of the column of the place `t`.
     pub fn row_at(self, t: usize, r: usize) -> usize
-        requires { InRange (shape_of self) × InZones (shape_of self) t × (r ≤ self.rows) }
+        requires { InZones (shape_of self) t × (r ≤ self.rows) }
         ensures { result ≡ row_at (shape_of self) t r }
     {
         let row = self.row_size();
         let o = t - self.zones_at();
         self.byte_at(o / row / (self.rows + 1), r, o % row)
     }
-}
-
-// The shape that a valid header page tells, or refusal 2: `n` is not its length. A valid header's shape is never out of range.
-fn open_by(h: &[u8], n: usize) -> Opened
-    requires { (length h.now ≡ page_size) × (header_ok h.now ≡ true) }
-    ensures { result ≡ opened_by h.now n }
-{
-    match Shape::new(header::byte(h, 4), header::byte(h, 5), header::byte(h, 6)) {
-        Made::OutOfRange => Opened::Refused(3),
-        Made::Good(s) => {
-            if n == s.size() {
-                return Opened::Good(s);
-            }
-            Opened::Refused(2)
-        }
-    }
-}
-
-// A pool whose copy equals its header: the letters are compared on both (01); the rest is judged once, since both are valid or neither, and 4 cannot be.
-fn open_one(pool: &[u8]) -> Opened
-    requires { (2 * page_size ≤ length pool.now) × (same (page_at pool.now 0) (page_at pool.now page_size) ≡ true) }
-    ensures { result ≡ opened pool.now }
-{
-    if !header::letters_ok(&pool[256..512]) {
-        return Opened::Refused(3);
-    }
-    if header::valid(&pool[0..256]) {
-        return open_by(&pool[0..256], pool.len());
-    }
-    Opened::Refused(3)
-}
-
-// A pool whose copy is different: refusal 4 if both are valid.
-fn open_two(pool: &[u8]) -> Opened
-    requires { (2 * page_size ≤ length pool.now) × (same (page_at pool.now 0) (page_at pool.now page_size) ≡ false) }
-    ensures { result ≡ opened pool.now }
-{
-    if header::valid(&pool[0..256]) {
-        if header::valid(&pool[256..512]) {
-            return Opened::Refused(4);
-        }
-        return open_by(&pool[0..256], pool.len());
-    }
-    if header::valid(&pool[256..512]) {
-        return open_by(&pool[256..512], pool.len());
-    }
-    Opened::Refused(3)
-}
-
-// The pool's shape, or the first of refusals 2, 3, 4, 2.
-pub fn open(pool: &[u8]) -> Opened
-    ensures { result ≡ opened pool.now }
-{
-    if pool.len() < 2 * Shape::PAGE {
-        return Opened::Refused(2);
-    }
-    if header::pages_same(&pool[0..256], &pool[256..512]) {
-        return open_one(pool);
-    }
-    open_two(pool)
-}
-
-// The pool's id: that of the first valid header. The first is judged only where the copy has another id.
-pub fn id(pool: &[u8]) -> u64
-    requires { 2 * page_size ≤ length pool.now }
-    ensures { result ≡ id_in pool.now }
-{
-    let first = header::id(&pool[0..256]);
-    let copy = header::id(&pool[256..512]);
-    if first == copy {
-        return first;
-    }
-    if header::valid(&pool[0..256]) {
-        return first;
-    }
-    copy
 }

@@ -1,14 +1,16 @@
 -- The places of a column: its rows are a row's bytes apart. Assumes nothing.
-use Prim.Native.Nat.{ℕ, suc, ◌+◌, ◌-◌, ◌*◌, ◌/◌, ◌%◌, ◌≤◌, ◌<◌}
-use mathlib.Core.Path.{◌≡◌, sym, ap, ◌∙◌}
-use mathlib.Core.Bool.{Bool, true, false}
+use Prim.Native.Nat.{ℕ, zero, suc, ◌+◌, ◌-◌, ◌*◌, ◌/◌, ◌%◌, ◌≤◌, ◌<◌}
+use mathlib.Core.Path.{◌≡◌, refl, sym, ap, ◌∙◌}
+use mathlib.Core.Bool.{Bool, true, false, cond}
 use mathlib.Core.List.{List}
-use native.Mathlib.Nat.{div-add-mod', div-lt_iff_lt-mul}
+use native.Mathlib.Nat.{add-zero, zero-add, suc-mul, div-add-mod', div-lt_iff_lt-mul}
 use native.Mathlib.Numerals.{add-one}
 use native.Mathlib.Omega.{arith}
 use lib.Arith.{digits_div, digits_mod, digits_lt}
 use lib.Dec.{eqb}
 use lib.ListN.{length, get_or}
+use Rattle.std.specs.List.{filter, range_with_len, sum_by}
+use Rattle.std.proofs.lemmas.List.Sums.{length-filter, sum_by-cons}
 use Rattle.rules.specs.Words.{word}
 use Rattle.rules.specs.Shape.{InZones, Shape, byte_at, off, pool_size, row, row_at, row_size, zone, zones_at}
 use Rattle.rules.specs.Parity.{column_byte, parity_word, xor_to}
@@ -82,16 +84,40 @@ module _ (sh : Shape) (g : Good sh) where
         small = v.small;
       }
 
--- ---- counts
+-- ---- sums and counts as the code makes them, over a range
 
-pub count-one : (f : ℕ → Bool) (c n : ℕ) → n ≡ count_to c f → f c ≡ true → n + 1 ≡ count_to (c + 1) f
-unfolding count_to
-count-one f c n e t = rw (add-one c, count_to, t) (omega arith)
+sum-from : (f : ℕ → ℕ) (a n : ℕ) → sum_to a f + sum_by f (range_with_len a n) ≡ sum_to (a + n) f
+sum-from f a zero = rw (add-zero a) (add-zero (sum_to a f))
+sum-from f a (suc n) =
+    let h : sum_to (suc a) f + sum_by f (range_with_len (suc a) n) ≡ sum_to (suc a + n) f = sum-from f (suc a) n in
+    let k : sum_to (suc a) f ≡ sum_to a f + f a = (unfold sum_to in refl) in
+    let e : suc a + n ≡ a + suc n = omega arith in
+    let l : sum_by f (range_with_len a (suc n)) ≡ f a + sum_by f (range_with_len (suc a) n) = sum_by-cons f a (range_with_len (a + 1) n) ∙ ap (λ (x : ℕ). f a + sum_by f (range_with_len x n)) (add-one a) in
+    let m : sum_to (suc a + n) f ≡ sum_to (a + suc n) f = ap (λ (x : ℕ). sum_to x f) e in
+    omega arith
 
-pub count_none : (f : ℕ → Bool) (c n : ℕ) → n ≡ count_to c f → f c ≡ false → n ≡ count_to (c + 1) f
-unfolding count_to
-count_none f c n e t = rw (add-one c, count_to, t) (omega arith)
-
-pub sum_more : (f : ℕ → ℕ) (z n m : ℕ) → n ≡ sum_to z f → m ≡ f z → n + m ≡ sum_to (z + 1) f
+pub sum-range : (f : ℕ → ℕ) (n : ℕ) → sum_by f (range_with_len 0 n) ≡ sum_to n f
 unfolding sum_to
-sum_more f z n m e t = rw add-one (omega arith)
+sum-range f n = sym (zero-add (sum_by f (range_with_len 0 n))) ∙ sum-from f 0 n ∙ ap (λ (x : ℕ). sum_to x f) (zero-add n)
+
+count-sum : (f : ℕ → Bool) (n : ℕ) → sum_to n (λ k. cond (f k) 1 0) ≡ count_to n f
+unfolding sum_to count_to
+count-sum f zero = refl
+count-sum f (suc n) = ap (λ (x : ℕ). x + cond (f n) 1 0) (count-sum f n)
+
+pub count-range : (f : ℕ → Bool) (n : ℕ) → length (filter f (range_with_len 0 n)) ≡ count_to n f
+count-range f n = length-filter f (range_with_len 0 n) ∙ sum-range (λ k. cond (f k) 1 0) n ∙ count-sum f n
+
+pub count-most : (f : ℕ → Bool) (n : ℕ) → count_to n f ≤ n
+unfolding count_to
+count-most f zero = omega arith
+count-most f (suc n) = let h = count-most f n in let k = cond-most (f n) in omega arith
+  where
+    cond-most : (b : Bool) → cond b 1 0 ≤ 1
+    cond-most true = omega arith
+    cond-most false = omega arith
+
+pub sum-most : (f : ℕ → ℕ) (m n : ℕ) → ((k : ℕ) → f k ≤ m) → sum_to n f ≤ n * m
+unfolding sum_to
+sum-most f m zero h = omega arith
+sum-most f m (suc n) h = let a = sum-most f m n h in let b = h n in rw (suc-mul n m) (omega arith)

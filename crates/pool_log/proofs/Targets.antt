@@ -3,25 +3,32 @@ use mathlib.Core.Path.{◌≡◌, refl, sym, ap, ap₂, ◌∙◌}
 use mathlib.Core.Bool.{Bool, true, false, not, ◌&&◌}
 use mathlib.Core.List.{List, [], ◌∷◌}
 use Prim.Native.Nat.{ℕ, zero, suc, ◌+◌, ◌*◌, ◌-◌, ◌/◌, ◌%◌, ◌<◌, ◌≤◌}
-use native.Mathlib.Nat.{div-div-eq-div-mul, mul_comm, mul-le-mul_right, mul-pos}
+use native.Mathlib.Nat.{add-zero, div-div-eq-div-mul, mul_comm, mul-le-mul_right, mul-pos}
 use native.Mathlib.Numerals.{add-one}
 use native.Mathlib.Omega.{arith}
 use lib.Dec.{eqb, leb, ltb}
-use lib.ListN.{length, get_or, set, length-set}
-use lib.Seq.{get_or-set_same, get_or-set_other}
-use borrow.Author.Tests.{eq-eqb, eqb-true, ne_eqb, le-leb, leb-true, ltb-true, lt-ltb, not-true, not-false}
-use Rattle.rules.specs.Words.{word}
+use lib.ListN.{length, take, drop, get_or, set, length-set, length-drop}
+use lib.Seq.{drop-drop, get_or-set_same, get_or-set_other, take-length}
+use borrow.Author.Tests.{eq-eqb, eqb-true, eqb-false, ne_eqb, le-leb, leb-true, ltb-true, lt-ltb}
+use Rattle.std.specs.Option.{is_some}
+use Rattle.std.specs.Prelude.{Option}
+use Rattle.std.proofs.lemmas.Bool.{true≢false}
+use Rattle.rules.specs.Words.{field, word}
 use Rattle.rules.specs.Shape.{Shape as PoolShape, byte_at, pool_size, row, row_size, zone, zone_at, zone_cells, zone_size, zones_at}
 use Rattle.rules.specs.Check.{check}
 use Rattle.rules.specs.Staging.{Store, entries_at, entry_bytes, good_targets}
 use Rattle.rules.proofs.Bool.{and_split, split}
 use Rattle.rules.proofs.Numbers.{less}
+use Rattle.rules.proofs.Words.{field-part}
 use Rattle.rules.proofs.Shape.{Good, cell_self, off-lt, row-in-zone, span_pos, zone-below, zone-cells, zone-end, zone-low}
 use Rattle.words.specs.Loaded.{Loaded}
 use Rattle.layout.specs.declared.Shape.{Shape}
-use Rattle.layout.specs.Meaning.{InRange, shape_of}
+use Rattle.layout.specs.Meaning.{shape_of}
 use Rattle.layout.proofs.Range.{shape-good}
 use Rattle.stage.specs.Index.{mark_count, mark_of}
+use Rattle.stage.specs.Touched.{Placed, added}
+use Rattle.stage.specs.View.{entries_of}
+use Rattle.stage.proofs.Counted.{fresh-told}
 use Rattle.pool_log.specs.Targets.{DataRows, RowsFor, absent_from, all_fit, check_of, fits, read}
 
 abbrev pub entry : List ℕ → ℕ → Store
@@ -67,20 +74,40 @@ read_all p at n =
 
 -- ---- no entry has the target t
 
-module _ (p : List ℕ) (at n i t : ℕ) (g : Bool) (e : absent_from t (read p (at + 16 * i) (n - i)) ≡ g) where
-  absent-next : i < n → (not (eqb t (word p (at + 16 * i))) && absent_from t (read p (at + 16 * (i + 1)) (n - (i + 1)))) ≡ g
-  unfolding absent_from
-  absent-next h = sym (ap (absent_from t) (read_next p at n i h)) ∙ e
+added-absent : (t : ℕ) (es : List Store) → eqb (added t es) 1 ≡ absent_from t es
+unfolding added absent_from
+added-absent t [] = refl
+added-absent t (x ∷ xs) =
+    split (eqb x.at t)
+    (λ e. rw (e, eq-eqb t x.at (sym (eqb-true x.at t e))))
+    (λ e. rw (e, ne_eqb t x.at (λ q. eqb-false x.at t e (sym q))) (added-absent t xs))
 
-  pub absent-hit : (u : ℕ) → i < n → Loaded 8 p (at + 16 * i) u → t ≡ u → false ≡ g
-  absent-hit u h w k = rw (eq-eqb t (word p (at + 16 * i)) (k ∙ loaded_word w)) at (absent-next h)
+word_drop : (p : List ℕ) (a k : ℕ) → word (drop a p) k ≡ word p (a + k)
+unfolding word
+word_drop p a k = field-part 8 (drop a p) k ∙ ap (λ (l : List ℕ). field 8 (take 8 l) 0) (drop-drop k a p) ∙ sym (field-part 8 p (a + k))
 
-  pub absent-on : (u : ℕ) → i < n → Loaded 8 p (at + 16 * i) u → (t ≡ u → ⊥) → absent_from t (read p (at + 16 * (i + 1)) (n - (i + 1))) ≡ g
-  absent-on u h w k = rw (ne_eqb t (word p (at + 16 * i)) (λ q. k (q ∙ sym (loaded_word w)))) at (absent-next h)
+entries_drop : (p : List ℕ) (a k n : ℕ) → entries_at (drop a p) k n ≡ entries_at p (a + k) n
+entries_drop p a k zero = refl
+entries_drop p a k (suc n) =
+    let e : a + (k + 8) ≡ a + k + 8 = omega arith in
+    let f : a + (k + 16) ≡ a + k + 16 = omega arith in
+    ap₂ ◌∷◌ (ap₂ (λ (u v : ℕ). record { at = u; val = v }) (word_drop p a k) (word_drop p a (k + 8) ∙ ap (word p) e)) (entries_drop p a (k + 16) n ∙ ap (λ (x : ℕ). entries_at p x n) f)
 
-  pub absent-end : n ≤ i → true ≡ g
-  unfolding absent_from
-  absent-end h = sym (ap (absent_from t) (read_none p at n i h)) ∙ e
+read_drop : (p : List ℕ) (at n : ℕ) → entries_of (take (length p - at) (drop at p)) n ≡ read p at n
+unfolding entries_of read
+read_drop p at n =
+    let d : take (length p - at) (drop at p) ≡ drop at p = rw (← (length-drop at p)) (take-length (drop at p)) in
+    rw d (entries_drop p at 0 n ∙ ap (λ (x : ℕ). entries_at p x n) (add-zero at))
+
+-- where r is its entry among those of the rest of p
+pub absent-placed : (p : List ℕ) (at n t : ℕ) (r : Option ℕ) → Placed (take (length p - at) (drop at p)) n t r → (b : Bool) → is_some r ≡ not b → b ≡ absent_from t (read p at n)
+absent-placed p at n t r h b e =
+    told (is_some r) b e ∙ fresh-told (take (length p - at) (drop at p)) n t r h ∙ added-absent t (entries_of (take (length p - at) (drop at p)) n)
+    ∙ ap (absent_from t) (read_drop p at n)
+  where
+    told : (x y : Bool) → x ≡ not y → y ≡ not x
+    told x true q = sym (ap not q)
+    told x false q = sym (ap not q)
 
 -- ---- a target that fits
 
@@ -137,7 +164,7 @@ module _ (s : Shape) (t : ℕ) where
   rows-high z f h = none-for (λ e. let r = fits-row (shape_of s) t e in omega arith)
 
   -- m where the zones begin, z where they end, d bytes of a zone
-  module _ (g : InRange (shape_of s)) (m z d : ℕ) (em : m ≡ zones_at (shape_of s)) (l : m ≤ t) (f : z ≡ pool_size (shape_of s)) (h : t < z) (ed : d ≡ zone_size (shape_of s)) where
+  module _ (m z d : ℕ) (em : m ≡ zones_at (shape_of s)) (l : m ≤ t) (f : z ≡ pool_size (shape_of s)) (h : t < z) (ed : d ≡ zone_size (shape_of s)) where
     zone-is : (t - m) / d ≡ zone (shape_of s) t
     unfolding zone
     zone-is =
@@ -145,10 +172,10 @@ module _ (s : Shape) (t : ℕ) where
         (ap (λ (x : ℕ). (t - zones_at (shape_of s)) / x) (mul_comm (s.rows + 1) (row_size (shape_of s))) ∙ sym (div-div-eq-div-mul (t - zones_at (shape_of s)) (row_size (shape_of s)) (s.rows + 1)))
 
     zone-inside : zone (shape_of s) t < s.zones
-    zone-inside = zone-below (shape_of s) (shape-good s g) t (omega arith) (omega arith)
+    zone-inside = zone-below (shape_of s) (shape-good s) t (omega arith) (omega arith)
 
     pub zone-some : 0 < d
-    zone-some = rw ed (mul-pos (omega arith) (span_pos (shape_of s) (shape-good s g)))
+    zone-some = rw ed (mul-pos (omega arith) (span_pos (shape_of s) (shape-good s)))
 
     pub zone-fits : (t - m) / d ≤ s.zones
     zone-fits = let e = zone-is in let k = zone-inside in omega arith
@@ -159,8 +186,8 @@ module _ (s : Shape) (t : ℕ) where
         let x : a ≡ zone_at (shape_of s) (zone (shape_of s) t) = p ∙ ap (zone_at (shape_of s)) zone-is in
         let y : b ≡ zone_at (shape_of s) (zone (shape_of s) t) + 64 * zone_cells (shape_of s) = omega arith in
         rw (x, y) (record {
-          rows = record { inside = rows_fit (shape_of s) (shape-good s g) (zone (shape_of s) t) zone-inside };
-          around = λ e. row-around (shape_of s) (shape-good s g) t (omega arith) (fits-row (shape_of s) t e).3;
+          rows = record { inside = rows_fit (shape_of s) (shape-good s) (zone (shape_of s) t) zone-inside };
+          around = λ e. row-around (shape_of s) (shape-good s) t (omega arith) (fits-row (shape_of s) t e).3;
         })
 
 -- where they are at hand, t fits if it is a multiple of 8 in them
@@ -185,12 +212,12 @@ rows_none sh = record { inside = λ u l h e. absurd (omega arith) }
 
 -- ---- entries judged from the last to the first
 
--- those from number i on fit and none repeats; a target whose mark is 0 is none of theirs
-pub record Passed (sh : PoolShape) (p : List ℕ) (at n i : ℕ) (marks : List ℕ) (low high : ℕ) : Type 0 where
+-- those from number i on fit and none repeats; a target that is not marked is none of theirs
+pub record Passed (sh : PoolShape) (p : List ℕ) (at n i : ℕ) (marks : List Bool) (low high : ℕ) : Type 0 where
   pub inside : i ≤ n
   pub size : length marks ≡ mark_count
   pub rows : DataRows sh low high
-  pub unmarked : (t : ℕ) → get_or marks (mark_of t) 0 ≡ 0 → absent_from t (read p (at + 16 * i) (n - i)) ≡ true
+  pub unmarked : (t : ℕ) → get_or marks (mark_of t) false ≡ false → absent_from t (read p (at + 16 * i) (n - i)) ≡ true
   pub fit : all_fit sh (read p (at + 16 * i) (n - i)) ≡ true
 
 module _ (sh : PoolShape) (p : List ℕ) (at n : ℕ) where
@@ -208,17 +235,17 @@ module _ (sh : PoolShape) (p : List ℕ) (at n : ℕ) where
       none true false x z = refl
       none false b x z = refl
 
-  pub passed_start : (marks : List ℕ) → length marks ≡ mark_count → Passed sh p at n n marks 0 0
+  pub passed_start : (marks : List Bool) → length marks ≡ mark_count → Passed sh p at n n marks 0 0
   unfolding all_fit absent_from
   passed_start marks m =
       let e = read_none p at n n (omega arith) in
       record { inside = omega arith; size = m; rows = rows_none sh; unmarked = λ t z. ap (absent_from t) e; fit = ap (all_fit sh) e }
 
-  pub passed-end : (i : ℕ) (marks : List ℕ) (low high : ℕ) → Passed sh p at n i marks low high → i ≡ 0 → true ≡ all_fit sh (read p at n)
+  pub passed-end : (i : ℕ) (marks : List Bool) (low high : ℕ) → Passed sh p at n i marks low high → i ≡ 0 → true ≡ all_fit sh (read p at n)
   passed-end i marks low high h z = sym (sym (ap (all_fit sh) (read_all p at n)) ∙ (rw z at h.fit))
 
   -- entry number i - 1, with the target u
-  module _ (i : ℕ) (marks : List ℕ) (low high : ℕ) (h : Passed sh p at n i marks low high) (o : 0 < i) (u : ℕ) (w : Loaded 8 p (at + 16 * (i - 1)) u) where
+  module _ (i : ℕ) (marks : List Bool) (low high : ℕ) (h : Passed sh p at n i marks low high) (o : 0 < i) (u : ℕ) (w : Loaded 8 p (at + 16 * (i - 1)) u) where
     before : read p (at + 16 * (i - 1)) (n - (i - 1)) ≡ record { at = u; val = word p (at + 16 * (i - 1) + 8) } ∷ read p (at + 16 * i) (n - i)
     before =
         let l = h.inside in
@@ -234,7 +261,7 @@ module _ (sh : PoolShape) (p : List ℕ) (at n : ℕ) where
         whole true false x z = refl
         whole false b x z = refl
 
-    pub passed-mark : (k : ℕ) → k ≡ mark_of u → get_or marks k 0 ≡ 0 → absent_from u (read p (at + 16 * i) (n - i)) ≡ true
+    pub passed-mark : (k : ℕ) → k ≡ mark_of u → get_or marks k false ≡ false → absent_from u (read p (at + 16 * i) (n - i)) ≡ true
     passed-mark k b x = h.unmarked u (rw b at x)
 
     part_of : all_fit sh (read p (at + 16 * (i - 1)) (n - (i - 1))) ≡ false → false ≡ all_fit sh (read p at n)
@@ -244,27 +271,27 @@ module _ (sh : PoolShape) (p : List ℕ) (at n : ℕ) where
       judged : r ≡ fits sh u
       judged = f ∙ rows-judge sh u low' high' g
 
-      pub passed-bad : not r ≡ true → false ≡ all_fit sh (read p at n)
-      passed-bad z = part_of (fit-before ∙ rw (← judged, not-true r z))
+      pub passed-bad : r ≡ false → false ≡ all_fit sh (read p at n)
+      passed-bad z = part_of (fit-before ∙ rw (← judged, z))
 
-      module _ (z : not r ≡ false) (q : Bool) (v : q ≡ absent_from u (read p (at + 16 * i) (n - i))) where
-        pub passed-twice : not q ≡ true → false ≡ all_fit sh (read p at n)
-        passed-twice y = part_of (fit-before ∙ rw (← judged, ← v, not-false r z, not-true q y))
+      module _ (z : r ≡ true) (q : Bool) (v : q ≡ absent_from u (read p (at + 16 * i) (n - i))) where
+        pub passed-twice : q ≡ false → false ≡ all_fit sh (read p at n)
+        passed-twice y = part_of (fit-before ∙ rw (← judged, ← v, z, y))
 
-        pub passed_on : (k : ℕ) → k ≡ mark_of u → k < mark_count → not q ≡ false → Passed sh p at n (i - 1) (set marks k 1) low' high'
+        pub passed_on : (k : ℕ) → k ≡ mark_of u → k < mark_count → q ≡ true → Passed sh p at n (i - 1) (set marks k true) low' high'
         unfolding absent_from
         passed_on k b j y = record {
           inside = let l = h.inside in omega arith;
-          size = length-set marks k 1 ∙ h.size;
+          size = length-set marks k true ∙ h.size;
           rows = g.rows;
           unmarked = λ t x. ap (absent_from t) before ∙ other t x;
-          fit = fit-before ∙ rw (← judged, ← v, not-false r z, not-false q y);
+          fit = fit-before ∙ rw (← judged, ← v, z, y);
         }
           where
-            other : (t : ℕ) → get_or (set marks k 1) (mark_of t) 0 ≡ 0 → (not (eqb t u) && absent_from t (read p (at + 16 * i) (n - i))) ≡ true
+            other : (t : ℕ) → get_or (set marks k true) (mark_of t) false ≡ false → (not (eqb t u) && absent_from t (read p (at + 16 * i) (n - i))) ≡ true
             other t x =
                 let m = h.size in
                 let s : k < length marks = omega arith in
-                let d : (mark_of t ≡ k → ⊥) = λ e. let c = rw (e, get_or-set_same marks k 1 0 s) at x in omega arith in
-                let a : get_or marks (mark_of t) 0 ≡ 0 = sym (get_or-set_other marks k (mark_of t) 1 0 d) ∙ x in
+                let d : (mark_of t ≡ k → ⊥) = λ e. true≢false (rw (e, get_or-set_same marks k true false s) at x) in
+                let a : get_or marks (mark_of t) false ≡ false = sym (get_or-set_other marks k (mark_of t) true false d) ∙ x in
                 rw (ne_eqb t u (λ e. d (ap mark_of e ∙ sym b))) (h.unmarked t a)

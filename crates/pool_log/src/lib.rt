@@ -2,68 +2,61 @@
 // opened by a call that reads it: its header and its seals.
 #![tactic(auto)]
 
-ghost use Rattle.std.specs.Prelude.{◌≡◌, true, ◌&&◌, ◌+◌, ◌*◌, ◌%◌, ◌^◌, ◌≤◌, ◌<◌, eqb, leb, ltb, length};
+ghost use Rattle.std.specs.Prelude.{◌≡◌, true, false, ◌&&◌, ◌+◌, ◌*◌, ◌%◌, ◌^◌, ◌≤◌, ◌<◌, eqb, leb, ltb, length, IfOk};
 ghost use Rattle.rules.specs.Test.{first};
 ghost use Rattle.rules.specs.Header.{shape_in};
 ghost use Rattle.rules.specs.Seals.{read_tests, unsealed};
-ghost use Rattle.layout.specs.Meaning.{InRange, Shaped, answer, shape_of};
+ghost use Rattle.layout.specs.Meaning.{answer, shape_of};
+ghost use Rattle.layout.specs.Opened.{opened_of};
 ghost use Rattle.powercut.specs.Log.{count_in, seal_of, valid as valid_log};
 ghost use Rattle.pool_log.specs.Places.{LogAt};
 ghost use Rattle.pool_log.specs.Targets.{DataRows, RowsFor, absent_from, all_fit, check_of, read};
 
-use layout::{Opened, Shape};
+use layout::{Pool, Shape};
+use refusals::Refusal;
 
-// Places from `low` up to `high`: data rows of one zone, or none.
+// Places from `low` up to `high`: data rows of one zone of the shape, or none.
 #[derive(Clone, Copy)]
 struct Rows {
     low: u64,
     high: u64,
 }
 
-// The data rows of the zone that `t` lies in; none where it lies in no zone.
-fn zone_rows(s: Shape, t: u64) -> Rows
-    requires { InRange (shape_of s) }
-    ensures { RowsFor (shape_of s) t result.low result.high }
-{
-    let a = t as usize;
-    let from = s.zones_at();
-    if a < from {
-        return Rows { low: 0, high: 0 };
-    }
-    if s.size() <= a {
-        return Rows { low: 0, high: 0 };
-    }
-    let low = s.zone_at((a - from) / s.zone_size());
-    Rows {
-        low: low as u64,
-        high: (low + 64 * s.cells()) as u64,
-    }
-}
-
-// `rows` if `t` lies there, so that targets of one zone cost one division; else those of its zone.
-fn rows_for(s: Shape, rows: Rows, t: u64) -> Rows
-    requires { (InRange (shape_of s)) × (DataRows (shape_of s) rows.low rows.high) }
-    ensures { RowsFor (shape_of s) t result.low result.high }
-{
-    if rows.low <= t {
-        if t < rows.high {
-            return rows;
+impl Rows {
+    // The data rows of the zone that `t` lies in; none where it lies in no zone.
+    fn around(s: Shape, t: u64) -> Rows
+        ensures { RowsFor (shape_of s) t result.low result.high }
+    {
+        let a = t as usize;
+        let from = s.zones_at();
+        if a < from || s.size() <= a {
+            // An empty range: no target lies there.
+            return Rows { low: 0, high: 0 };
+        }
+        let low = s.zone_at((a - from) / s.zone_size());
+        Rows {
+            low: low as u64,
+            high: (low + 64 * s.cells()) as u64,
         }
     }
-    zone_rows(s, t)
-}
 
-// Whether `t` is a multiple of 8 in `rows`.
-fn in_rows(rows: Rows, t: u64) -> bool
-    ensures { result ≡ (eqb (t % 8) 0 && (leb rows.low t && ltb t rows.high)) }
-{
-    if t % 8 != 0 {
-        return false;
+    // These if `t` lies there, so that targets of one zone cost one division; else those of its zone.
+    fn or_around(self, s: Shape, t: u64) -> Rows
+        requires { DataRows (shape_of s) self.low self.high }
+        ensures { RowsFor (shape_of s) t result.low result.high }
+    {
+        if self.low <= t && t < self.high {
+            return self;
+        }
+        Rows::around(s, t)
     }
-    if t < rows.low {
-        return false;
+
+    // Whether `t` is a multiple of 8 there.
+    fn has(self, t: u64) -> bool
+        ensures { result ≡ (eqb (t % 8) 0 && (leb self.low t && ltb t self.high)) }
+    {
+        t % 8 == 0 && self.low <= t && t < self.high
     }
-    t < rows.high
 }
 
 // Whether none of the `n` entries at `at` has the target `t`.
@@ -71,48 +64,37 @@ fn absent(p: &[u8], at: usize, n: usize, t: u64) -> bool
     requires { at + 16 * n ≤ length p.now }
     ensures { result ≡ absent_from t (read p.now at n) }
 {
-    let mut i = 0;
-    while i < n {
-        if t == words::load64(p, at + 16 * i) {
-            return false;
-        }
-        i += 1;
-    }
-    true
+    stage::entry_index(&p[at..], n, t).is_none()
 }
 
-// The same where a mark of 0 already says that none has it.
-fn absent_marked(p: &[u8], at: usize, n: usize, t: u64, mark: u8) -> bool
-    requires { (at + 16 * n ≤ length p.now) × (mark ≡ 0 → absent_from t (read p.now at n) ≡ true) }
+// The same where a target that is not marked is already known to be absent.
+fn absent_marked(p: &[u8], at: usize, n: usize, t: u64, marked: bool) -> bool
+    requires { (at + 16 * n ≤ length p.now) × (marked ≡ false → absent_from t (read p.now at n) ≡ true) }
     ensures { result ≡ absent_from t (read p.now at n) }
 {
-    if mark == 0 {
-        return true;
-    }
-    absent(p, at, n, t)
+    !marked || absent(p, at, n, t)
 }
 
 // Whether the targets of the `n` entries at `at` fit and none repeats. From the last to the first: each entry passed has set its target's
 // mark, so that the entries after one are searched only where its mark is set.
 pub fn targets_fit(s: Shape, p: &[u8], at: usize, n: usize) -> bool
-    requires { (InRange (shape_of s)) × (at + 16 * n ≤ length p.now) }
+    requires { at + 16 * n ≤ length p.now }
     ensures { result ≡ all_fit (shape_of s) (read p.now at n) }
 {
-    let mut marks = [0u8; stage::MARKS];
+    let mut marks = [false; stage::MARKS];
+    // An empty range: no target lies there.
     let mut rows = Rows { low: 0, high: 0 };
-    let mut i = n;
-    while i > 0 {
-        let t = words::load64(p, at + 16 * (i - 1));
-        rows = rows_for(s, rows, t);
-        if !in_rows(rows, t) {
+    for i in (0..n).rev() {
+        let t = words::load64(p, at + 16 * i);
+        rows = rows.or_around(s, t);
+        if !rows.has(t) {
             return false;
         }
         let k = stage::mark_of(t);
-        if !absent_marked(p, at + 16 * i, n - i, t, marks[k]) {
+        if !absent_marked(p, at + 16 * (i + 1), n - (i + 1), t, marks[k]) {
             return false;
         }
-        marks[k] = 1;
-        i -= 1;
+        marks[k] = true;
     }
     true
 }
@@ -141,10 +123,11 @@ pub fn count(w: u64) -> usize
 }
 
 // Whether the log at `b` is valid.
-pub fn valid(s: Shape, p: &[u8], b: usize) -> bool
-    requires { Shaped p.now (shape_of s) × LogAt (shape_of s) b }
-    ensures { result ≡ valid_log (shape_of s) p.now b }
+pub fn valid(pool: &Pool, b: usize) -> bool
+    requires { LogAt (shape_of pool.now.shape) b }
+    ensures { result ≡ valid_log (shape_of pool.now.shape) pool.now.bytes.now b }
 {
+    let p = pool.bytes;
     let w = words::load64(p, b);
     let n = count(w);
     if w / 4294967296 / 65536 != 0xA51C {
@@ -159,33 +142,26 @@ pub fn valid(s: Shape, p: &[u8], b: usize) -> bool
     if w % 4294967296 != check_entries(p, b + 16, n) as u64 {
         return false;
     }
-    targets_fit(s, p, b + 16, n)
+    targets_fit(pool.shape, p, b + 16, n)
 }
 
 // Whether both seals are zero.
-pub fn seals_zero(s: Shape, p: &[u8]) -> bool
-    requires { Shaped p.now (shape_of s) }
-    ensures { result ≡ unsealed (shape_of s) p.now }
+pub fn seals_zero(pool: &Pool) -> bool
+    ensures { result ≡ unsealed (shape_of pool.now.shape) pool.now.bytes.now }
 {
-    let a = s.log_a();
-    let b = s.log_b();
-    if words::load64(p, a) != 0 {
-        return false;
-    }
-    words::load64(p, b) == 0
+    let a = pool.shape.log_a();
+    let b = pool.shape.log_b();
+    words::load64(pool.bytes, a) == 0 && words::load64(pool.bytes, b) == 0
 }
 
-// The pool's shape, or the first of refusals 2, 3, 4, 2, 21.
-pub fn quiet(pool: &[u8]) -> Opened
-    ensures { result ≡ answer (first (read_tests pool.now)) (shape_in pool.now) }
+// The pool, or the first of refusals 2, 3, 4, 2, 21.
+pub fn quiet(bytes: &[u8]) -> Result<Pool, Refusal>
+    ensures shape { opened_of result ≡ answer (first (read_tests bytes.now)) (shape_in bytes.now) }
+    ensures bytes { IfOk result (λ p. p.bytes.now ≡ bytes.now) }
 {
-    match layout::open(pool) {
-        Opened::Refused(n) => Opened::Refused(n),
-        Opened::Good(s) => {
-            if seals_zero(s, pool) {
-                return Opened::Good(s);
-            }
-            Opened::Refused(21)
-        }
+    let pool = Pool::open(bytes)?;
+    if !seals_zero(&pool) {
+        return Err(Refusal::Sealed);
     }
+    Ok(pool)
 }

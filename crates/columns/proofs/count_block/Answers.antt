@@ -1,26 +1,25 @@
 -- `columns::count_block` meets its contract. Assumes nothing.
-use Prim.Native.Nat.{◌+◌}
-use mathlib.Core.Path.{refl, sym, subst}
+use Rattle.std.proofs.lemmas.Iterator.{empty_from_Zip}
+use Rattle.std.proofs.lemmas.Slice.Zip.{Zip-more}
+use mathlib.Core.Path.{ap}
 use native.Mathlib.Omega.{arith}
-use Rattle.columns.proofs.Counting.{Counting, counting-differs, counting-end, counting-few, counting-same, counting-start}
+use lib.ListN.{length}
+use Rattle.columns.proofs.Counting.{counting-differs, counting-end, counting-few, counting-same}
 use Rattle.columns.proofs.count_block.Goals as goal
-use Rattle.columns.proofs.count_block.Goals.{then-before-i, else-before-i}
 
-pub loop-i-init : goal.loop-i-init
-loop-i-init c = (refl, counting-start c.args.before.now c.args.after.now)
+pub loop-x-preserved-then-x-y : goal.loop-x-preserved-then-x-y
+loop-x-preserved-then-x-y c =
+    let z = Zip-more _ c.next.new.self _ _ c.in-Some.is c.next.ensures.steps in
+    counting-differs c.loop-x.invariant z.0 z.1 c.if-x-y.true
 
 pub overflow_add-n : goal.overflow_add-n
-overflow_add-n c = let l = c.loop-i in omega (arith, counting-few l.invariant.1, c.requires.1)
+overflow_add-n c = omega (arith, counting-few (loop-x-preserved-then-x-y c))
 
-pub loop-i-preserved : goal.loop-i-preserved
-loop-i-preserved c =
-    let l = c.loop-i in (
-      refl,
-      elim c.if-before-i.branch [
-        | then-before-i w ↦ subst (Counting c.args.before.now c.args.after.now (l.i + 1)) (sym w.n-is) (counting-differs l.invariant.1 c.requires.0 (omega arith) w.if-before-i.true)
-        | else-before-i w ↦ subst (Counting c.args.before.now c.args.after.now (l.i + 1)) (sym w.n-is) (counting-same l.invariant.1 c.requires.0 (omega arith) w.if-before-i.false)
-      ],
-    )
+pub loop-x-preserved : goal.loop-x-preserved
+loop-x-preserved c =
+    let z = Zip-more _ c.next.new.self _ _ c.in-Some.is c.next.ensures.steps in
+    counting-same c.loop-x.invariant z.0 z.1 c.if-x-y.false
 
 pub returns : goal.returns
-returns c = let l = c.loop-i in counting-end l.invariant.1 c.requires.0 (omega arith)
+returns c =
+    counting-end c.loop-x.invariant (ap length (empty_from_Zip _ c.next.new.self _ c.in-None.is c.next.ensures.steps c.loop-x.invariant.same).0)

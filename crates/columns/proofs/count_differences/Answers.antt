@@ -1,33 +1,24 @@
 -- `columns::count_differences` meets its contract. Assumes nothing.
-use Prim.Native.Nat.{◌+◌, ◌≤◌}
-use mathlib.Core.Path.{sym, ◌∙◌}
-use native.Mathlib.Nat.{add-sub_cancel_left}
+use mathlib.Core.Path.{◌≡◌, ◌∙◌}
+use mathlib.Core.Logic.{inl, inr}
 use native.Mathlib.Omega.{arith}
-use borrow.Author.Rules.{rules}
 use lib.ListN.{length}
-use Rattle.columns.proofs.Counting.{counting-block, counting-end, counting-few, counting-start, slice-length}
+use Rattle.columns.proofs.Counting.{counting-block, counting-end, counting-few}
 use Rattle.columns.proofs.count_differences.Goals as goal
 
-pub loop-i-init : goal.loop-i-init
-loop-i-init c = (search rules, counting-start _ _)
-
-pub count_block-requires : goal.count_block-requires
-count_block-requires c =
-    let l = c.loop-i in
-    let b = c.block_length in
-    let h : l.i + b.result ≤ length c.args.before.now = search rules in
-    let e = slice-length c.args.before.now l.i b.result h in
-    (e ∙ sym (slice-length c.args.after.now l.i b.result (omega (arith, c.requires))), rw e (search rules))
+pub loop-x-preserved : goal.loop-x-preserved
+loop-x-preserved c =
+    let i = c.loop-x.invariant in
+    let n = c.in-Some.ensures.steps in
+    let e = i.2.same in
+    let l : length c.in-Some.x.now ≡ length c.in-Some.y.now = omega (arith, i.0, i.1, n.0.1.1, n.1.1.1) in
+    (n.0.0 ∙ i.0, n.1.0 ∙ i.1, rw (c.from-total.ensures, c.count_block.ensures) (counting-block i.2 _ _ _ _ n.0.1.0 n.1.1.0 l))
 
 pub overflow_add-total : goal.overflow_add-total
-overflow_add-total c = let l = c.loop-i in omega (arith, counting-few l.invariant.1)
-
-pub loop-i-preserved : goal.loop-i-preserved
-loop-i-preserved c =
-    let l = c.loop-i in
-    let b = c.block_length in
-    let h : l.i + b.result ≤ length c.args.before.now = search rules in
-    (h, counting-block l.invariant.1 c.requires b.result _ h (rw (add-sub_cancel_left l.i b.result) at c.count_block.ensures))
+overflow_add-total c = omega (arith, counting-few (loop-x-preserved c).2)
 
 pub returns : goal.returns
-returns c = let l = c.loop-i in counting-end l.invariant.1 c.requires (omega arith)
+returns c =
+    let i = c.loop-x.invariant in
+    let e = i.2.same in
+    elim c.in-None.ensures.steps [ inl a ↦ counting-end i.2 a.1.1.0 | inr b ↦ counting-end i.2 (e ∙ b.1.1.0) ]

@@ -1,11 +1,11 @@
 -- `columns::count_differences` meets its contract. Assumes nothing.
-use Prim.Native.Nat.{◌-◌, ◌≤◌}
-use lib.ListN.{length}
+use mathlib.Core.Path.{◌≡◌}
+use Rattle.std.specs.Iterator.Adapters.{zip_first, zip_second}
+use Rattle.std.specs.Slice.Iter.{chunks_rest, chunks_size}
 use Rattle.columns.proofs.Counting.{Counting}
 use Rattle.columns.proofs.count_differences.Given as goal
 
-abbrev pub invariant-loop-i : goal.invariant-loop-i
-invariant-loop-i l = (l.i ≤ length l.before) × Counting l.before l.after l.i l.total
-
-abbrev pub decreases-loop-i : goal.decreases-loop-i
-decreases-loop-i l = length l.before - l.i
+abbrev pub invariant-loop-x : goal.invariant-loop-x
+invariant-loop-x l =
+    (chunks_size (zip_first l.x-iterator) ≡ 128) × (chunks_size (zip_second l.x-iterator) ≡ 128)
+    × Counting l.before l.after (chunks_rest (zip_first l.x-iterator)) (chunks_rest (zip_second l.x-iterator)) l.total

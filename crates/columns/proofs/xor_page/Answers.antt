@@ -3,7 +3,7 @@ use Prim.Native.Nat.{◌<◌}
 use mathlib.Core.Path.{refl}
 use native.Mathlib.Omega.{arith}
 use lib.ListN.{length}
-use Rattle.pages.proofs.Storing.{storing-start, storing-step}
+use Rattle.columns.proofs.Storing.{storing-start, storing-step}
 use Rattle.columns.proofs.Pages.{xored-byte, xored-end, xored-length}
 use Rattle.columns.proofs.xor_page.Goals as goal
 

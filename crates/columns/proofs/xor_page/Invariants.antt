@@ -2,7 +2,7 @@
 use Prim.Native.Nat.{◌-◌}
 use mathlib.Core.Path.{◌≡◌}
 use lib.ListN.{length}
-use Rattle.pages.proofs.Storing.{Storing}
+use Rattle.columns.proofs.Storing.{Storing}
 use Rattle.columns.specs.Column.{xored}
 use Rattle.columns.proofs.xor_page.Given as goal
 

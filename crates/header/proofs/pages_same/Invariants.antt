@@ -1,15 +1,13 @@
--- `header::pages_same` meets its contract. The invariant: the bits passed are zero, and the pages the same from `i` on, exactly where they are the same. Assumes nothing.
-use Prim.Native.Nat.{◌-◌, ◌≤◌}
-use mathlib.Core.Path.{◌≡◌}
-use mathlib.Core.Bool.{◌&&◌}
-use lib.Dec.{eqb}
-use lib.ListN.{drop}
+-- `header::pages_same` meets its contract. The invariant: the bits passed are zero, and the pages the same from there on, exactly where they are the same.
+-- Assumes nothing.
+use Rattle.std.proofs.Common.{◌≡◌, ◌&&◌, eqb, length}
+use Rattle.std.specs.Iterator.Adapters.{zip_first, zip_second}
+use Rattle.std.specs.Slice.Iter.{iter_rest}
 use Rattle.rules.specs.Header.{same}
-use Rattle.rules.specs.Shape.{page_size}
 use Rattle.header.proofs.pages_same.Given as goal
 
-abbrev pub invariant-loop-i : goal.invariant-loop-i
-invariant-loop-i l = (l.i ≤ page_size) × ((eqb l.bits 0 && same (drop l.i l.a) (drop l.i l.b)) ≡ same l.a l.b)
-
-abbrev pub decreases-loop-i : goal.decreases-loop-i
-decreases-loop-i l = page_size - l.i
+abbrev pub invariant-loop-x : goal.invariant-loop-x
+invariant-loop-x l =
+    let xs = iter_rest (zip_first l.x-iterator) in
+    let ys = iter_rest (zip_second l.x-iterator) in
+    (length ys ≡ length xs) × ((eqb l.bits 0 && same xs ys) ≡ same l.a l.b)

@@ -1,17 +1,22 @@
 -- `pool_log::quiet` meets its contract. Assumes nothing.
-use mathlib.Core.Path.{sym}
-use Rattle.layout.proofs.Opening.{open-shaped}
+use mathlib.Core.Path.{sym, ap, ◌∙◌}
+use Rattle.std.proofs.lemmas.Result.{err_from_is_err_and}
+use Rattle.layout.specs.Meaning.{shape_of}
+use Rattle.rules.specs.Seals.{unsealed}
 use Rattle.pool_log.proofs.Opening.{quiet-good, quiet-refused, quiet-sealed}
 use Rattle.pool_log.proofs.quiet.Goals as goal
 
-pub seals_zero-requires : goal.seals_zero-requires
-seals_zero-requires c = open-shaped _ _ (sym c.in-Good.ensures)
+pub returns-then-not-seals_zero : goal.returns-then-not-seals_zero
+returns-then-not-seals_zero c =
+    let p = c.in_ok-pool in
+    record { shape = quiet-sealed _ p.pool.shape _ (sym p.ensures.shape) (c.seals_zero.ensures ∙ ap (unsealed (shape_of p.pool.shape)) p.ensures.bytes) c.if-not-seals_zero.true; bytes = tt }
 
-pub returns-then-seals_zero : goal.returns-then-seals_zero
-returns-then-seals_zero c = quiet-good _ _ _ (sym c.in-Good.ensures) c.seals_zero.ensures c.if-seals_zero.true
+pub returns : goal.returns
+returns c =
+    let p = c.in_ok-pool in
+    record { shape = quiet-good _ p.pool.shape _ (sym p.ensures.shape) (c.seals_zero.ensures ∙ ap (unsealed (shape_of p.pool.shape)) p.ensures.bytes) c.if-not-seals_zero.false; bytes = p.ensures.bytes }
 
-pub returns-in-Refused : goal.returns-in-Refused
-returns-in-Refused c = quiet-refused _ _ (sym c.in-Refused.ensures)
-
-pub returns-else-seals_zero : goal.returns-else-seals_zero
-returns-else-seals_zero c = quiet-sealed _ _ _ (sym c.in-Good.ensures) c.seals_zero.ensures c.if-seals_zero.false
+pub returns-in_err-pool : goal.returns-in_err-pool
+returns-in_err-pool c =
+    let p = err_from_is_err_and c.from_residual.result c.from_residual.ensures.1 in
+    rw (p.1, p.2) (record { shape = quiet-refused _ _ (sym c.in_err-pool.ensures.shape); bytes = tt })

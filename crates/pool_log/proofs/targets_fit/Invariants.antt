@@ -5,6 +5,3 @@ use Rattle.pool_log.proofs.targets_fit.Given as goal
 
 abbrev pub invariant-loop-i : goal.invariant-loop-i
 invariant-loop-i l = Passed (shape_of l.s) l.p l.at l.n l.i l.marks l.rows.low l.rows.high
-
-abbrev pub decreases-loop-i : goal.decreases-loop-i
-decreases-loop-i l = l.i

@@ -6,28 +6,28 @@ use Rattle.layout.proofs.Range.{bounds, row-bounds}
 use Rattle.layout.proofs.Shape.byte_at.Goals as goal
 
 pub overflow_mul-result : goal.overflow_mul-result
-overflow_mul-result c = omega (arith, bounds c.args.self c.requires.0)
+overflow_mul-result c = omega (arith, bounds c.args.self)
 
 pub overflow_add-result : goal.overflow_add-result
-overflow_add-result c = omega (arith, bounds c.args.self c.requires.0)
+overflow_add-result c = omega (arith, bounds c.args.self)
 
 pub overflow_mul-result-2 : goal.overflow_mul-result-2
-overflow_mul-result-2 c = omega (arith, bounds c.args.self c.requires.0, row-bounds c.args.self c.requires.0 c.requires.1 c.requires.2)
+overflow_mul-result-2 c = omega (arith, bounds c.args.self, row-bounds c.args.self c.requires.0 c.requires.1)
 
 pub overflow_add-result-2 : goal.overflow_add-result-2
-overflow_add-result-2 c = omega (arith, bounds c.args.self c.requires.0, row-bounds c.args.self c.requires.0 c.requires.1 c.requires.2)
+overflow_add-result-2 c = omega (arith, bounds c.args.self, row-bounds c.args.self c.requires.0 c.requires.1)
 
 pub overflow_mul-result-3 : goal.overflow_mul-result-3
-overflow_mul-result-3 c = omega (arith, bounds c.args.self c.requires.0)
+overflow_mul-result-3 c = omega (arith, bounds c.args.self)
 
 pub overflow_mul-result-4 : goal.overflow_mul-result-4
-overflow_mul-result-4 c = omega (arith, bounds c.args.self c.requires.0, row-bounds c.args.self c.requires.0 c.requires.1 c.requires.2)
+overflow_mul-result-4 c = omega (arith, bounds c.args.self, row-bounds c.args.self c.requires.0 c.requires.1)
 
 pub overflow_add-result-3 : goal.overflow_add-result-3
-overflow_add-result-3 c = omega (arith, bounds c.args.self c.requires.0, row-bounds c.args.self c.requires.0 c.requires.1 c.requires.2)
+overflow_add-result-3 c = omega (arith, bounds c.args.self, row-bounds c.args.self c.requires.0 c.requires.1)
 
 pub overflow_add-result-4 : goal.overflow_add-result-4
-overflow_add-result-4 c = omega (arith, bounds c.args.self c.requires.0, row-bounds c.args.self c.requires.0 c.requires.1 c.requires.2)
+overflow_add-result-4 c = omega (arith, bounds c.args.self, row-bounds c.args.self c.requires.0 c.requires.1)
 
 pub returns : goal.returns
 unfolding byte_at

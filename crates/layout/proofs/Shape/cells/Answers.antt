@@ -6,11 +6,11 @@ use Rattle.layout.proofs.Range.{bounds}
 use Rattle.layout.proofs.Shape.cells.Goals as goal
 
 pub overflow_mul-result : goal.overflow_mul-result
-overflow_mul-result c = omega (arith, bounds c.args.self c.requires)
+overflow_mul-result c = omega (arith, bounds c.args.self)
 
 pub overflow_mul-result-2 : goal.overflow_mul-result-2
-overflow_mul-result-2 c = omega (arith, bounds c.args.self c.requires)
+overflow_mul-result-2 c = omega (arith, bounds c.args.self)
 
 pub returns : goal.returns
 unfolding zone_cells
-returns c = (refl, omega (arith, bounds c.args.self c.requires))
+returns c = (refl, omega (arith, bounds c.args.self))

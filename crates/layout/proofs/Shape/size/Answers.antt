@@ -6,20 +6,20 @@ use Rattle.layout.proofs.Range.{bounds, size-bounds}
 use Rattle.layout.proofs.Shape.size.Goals as goal
 
 pub overflow_add-result : goal.overflow_add-result
-overflow_add-result c = omega (arith, bounds c.args.self c.requires)
+overflow_add-result c = omega (arith, bounds c.args.self)
 
 pub overflow_mul-result : goal.overflow_mul-result
-overflow_mul-result c = omega (arith, bounds c.args.self c.requires)
+overflow_mul-result c = omega (arith, bounds c.args.self)
 
 pub overflow_mul-result-2 : goal.overflow_mul-result-2
-overflow_mul-result-2 c = omega (arith, bounds c.args.self c.requires)
+overflow_mul-result-2 c = omega (arith, bounds c.args.self)
 
 pub overflow_add-result-2 : goal.overflow_add-result-2
-overflow_add-result-2 c = omega (arith, bounds c.args.self c.requires)
+overflow_add-result-2 c = omega (arith, bounds c.args.self)
 
 pub overflow_mul-result-3 : goal.overflow_mul-result-3
 unfolding pool_size
-overflow_mul-result-3 c = omega (arith, (size-bounds c.args.self c.requires).1)
+overflow_mul-result-3 c = omega (arith, (size-bounds c.args.self).1)
 
 pub returns : goal.returns
 unfolding pool_size

@@ -1,9 +1,9 @@
--- `layout::open_two` meets its contract. Assumes nothing.
+-- `layout::opened::open_two` meets its contract. Assumes nothing.
 use mathlib.Core.Path.{sym, ◌∙◌}
 use Rattle.rules.specs.Header.{page_at, valid_header}
 use Rattle.layout.proofs.Opening.{open-copy, open-differing, open-header, open-neither}
 use borrow.Author.Rules.{rules}
-use Rattle.layout.proofs.open_two.Goals as goal
+use Rattle.layout.proofs.opened.open_two.Goals as goal
 
 pub returns-then-valid-2 : goal.returns-then-valid-2
 unfolding valid_header page_at

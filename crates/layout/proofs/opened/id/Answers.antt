@@ -1,8 +1,8 @@
--- `layout::id` meets its contract. Assumes nothing.
+-- `layout::opened::id` meets its contract. Assumes nothing.
 use Rattle.rules.specs.Header.{page_at, valid_header}
 use Rattle.layout.proofs.Opening.{id-copy, id-equal, id-header}
 use borrow.Author.Rules.{rules}
-use Rattle.layout.proofs.id.Goals as goal
+use Rattle.layout.proofs.opened.id.Goals as goal
 
 pub returns-then-first-copy : goal.returns-then-first-copy
 unfolding page_at

@@ -1,9 +1,9 @@
--- `layout::open` meets its contract. Assumes nothing.
+-- `layout::opened::open` meets its contract. Assumes nothing.
 use mathlib.Core.Path.{sym, ◌∙◌}
 use Rattle.rules.specs.Header.{page_at}
 use Rattle.layout.proofs.Opening.{open-short}
 use borrow.Author.Rules.{rules}
-use Rattle.layout.proofs.open.Goals as goal
+use Rattle.layout.proofs.opened.open.Goals as goal
 
 pub returns-then-pool : goal.returns-then-pool
 returns-then-pool c = open-short c.args.pool.now c.if-pool.true

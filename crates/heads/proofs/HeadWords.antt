@@ -126,14 +126,11 @@ module _ (a b : ℕ) where
       let c : head_check (head_of a b) ≡ check (covered_by a 0 []) = s.chk ∙ ap check (head-covered a b [] ∙ rw d) in
       eq-eqb b g (omega (arith, head-check a b, k.second_is)))
 
-  pub object-empty : {m : ℕ} → m ≡ head_length (head_of a b) → m ≡ 0 → false ≡ object_ok (head_of a b)
-  object-empty e z = no (object_ok (head_of a b)) (λ t. omega (arith, (object-says (head_of a b) t).some))
+  pub object-outside : {m : ℕ} → m ≡ head_length (head_of a b) → (1 ≤ m → m ≤ 496 → ⊥) → false ≡ object_ok (head_of a b)
+  object-outside e f = no (object_ok (head_of a b)) (λ t. let s = object-says (head_of a b) t in f (rw e s.some) (rw e s.most))
 
-  pub object-long : {m : ℕ} → m ≡ head_length (head_of a b) → 496 < m → false ≡ object_ok (head_of a b)
-  object-long e z = no (object_ok (head_of a b)) (λ t. omega (arith, (object-says (head_of a b) t).most))
-
-  pub object-same : a < 2 ^ 64 → {m f : ℕ} → m ≡ head_length (head_of a b) → (m ≡ 0 → ⊥) → m ≤ 496 → f ≡ 2 + 65536 * cells_for m + 4294967296 * m → eqb a f ≡ object_ok (head_of a b)
-  object-same small {m} {f} e z l k =
+  pub object-same : a < 2 ^ 64 → {m f : ℕ} → m ≡ head_length (head_of a b) → 1 ≤ m → m ≤ 496 → f ≡ 2 + 65536 * cells_for m + 4294967296 * m → eqb a f ≡ object_ok (head_of a b)
+  object-same small {m} {f} e g l k =
       let c : cells_for m ≤ 8 = unfold cells_for in (omega arith) in
       let q : cells_for (head_length (head_of a b)) ≡ cells_for m = ap cells_for (sym e) in
       same (eqb a f) (object_ok (head_of a b))

@@ -3,16 +3,17 @@
 //   first    kind 2 bytes, run length in cells 2, body length 4        second    check 4, tag 4
 #![tactic(auto)]
 
-ghost use Rattle.std.specs.Prelude.{◌≡◌, [], ◌+◌, ◌*◌, ◌/◌, ◌%◌, ◌≤◌, ◌<◌, length, take};
+ghost use Rattle.std.specs.Prelude.{◌≡◌, [], ◌+◌, ◌*◌, ◌/◌, ◌%◌, ◌≤◌, ◌<◌, length};
 ghost use Rattle.std.proofs.lemmas.List.Edits.{sets};
 ghost use Rattle.rules.specs.Shape.{head_size};
 ghost use Rattle.rules.specs.Words.{digits};
 ghost use Rattle.rules.specs.Runs.{cells_for, free_head, free_ok, head_bytes, head_cells, head_check, head_length, head_tag, object_kind, object_ok};
-ghost use Rattle.sums.specs.Fed.{Below, Fed};
-ghost use Rattle.stage.specs.Index.{Indexed};
-ghost use Rattle.stage.specs.View.{part, seen, Staged};
+ghost use Rattle.sums.specs.Fed.{Fed};
+ghost use Rattle.stage.specs.Seen.{seen_by};
+ghost use Rattle.stage.specs.View.{part};
 ghost use Rattle.heads.specs.HeadWords.{covered_by, head_of, Checked};
 
+use stage::View;
 use sums::Sums;
 
 #[derive(Clone, Copy)]
@@ -21,22 +22,12 @@ pub struct Head {
     pub second: u64,
 }
 
-// The sums after the first `n` of `bytes`.
-fn feed_first(s: Sums, bytes: &[u8], n: usize) -> Sums
-    requires { Below s.low s.high × (n ≤ length bytes.now) }
-    ensures { Fed s.low s.high (take n bytes.now) result.low result.high }
-{
-    s.feed(&bytes[..n])
-}
-
 // The sums after the `n` low bytes of `word`.
 pub fn feed_word(s: Sums, word: u64, n: usize) -> Sums
-    requires { Below s.low s.high × (n ≤ 8) }
+    requires { n ≤ 8 }
     ensures { Fed s.low s.high (digits n word) result.low result.high }
 {
-    let mut bytes = [0; 8];
-    words::store64(&mut bytes, 0, word);
-    feed_first(s, &bytes, n)
+    s.feed(&word.to_le_bytes()[..n])
 }
 
 // The fewest cells that hold the head and a body of `m` bytes.
@@ -87,13 +78,9 @@ impl Head {
         ensures { result ≡ free_ok (head_of self.first self.second) }
     {
         let n = self.cells();
-        if n == 0 {
-            return false;
-        }
-        if self.first != 1 + 65536 * (n as u64) {
-            return false;
-        }
-        self.second == checked(self.first, 0, b"").second
+        n != 0
+            && self.first == 1 + 65536 * (n as u64)
+            && self.second == checked(self.first, 0, b"").second
     }
 
     // A right head of an object, but for its check.
@@ -101,13 +88,7 @@ impl Head {
         ensures { result ≡ object_ok (head_of self.first self.second) }
     {
         let m = self.body();
-        if m == 0 {
-            return false;
-        }
-        if 496 < m {
-            return false;
-        }
-        self.first == object_first(m)
+        (1..=496).contains(&m) && self.first == object_first(m)
     }
 }
 
@@ -123,7 +104,7 @@ fn object_first(m: usize) -> u64
 fn checked(first: u64, tag: u32, body: &[u8]) -> Head
     ensures { Checked first tag body.now result.first result.second }
 {
-    let upper = 4294967296 * (tag as u64);
+    let upper = 4294967296 * u64::from(tag);
     let h = Head {
         first,
         second: upper,
@@ -131,7 +112,7 @@ fn checked(first: u64, tag: u32, body: &[u8]) -> Head
     let s = h.sums().feed(body);
     Head {
         first,
-        second: upper + (s.value() as u64),
+        second: upper + u64::from(s.value()),
     }
 }
 
@@ -160,17 +141,18 @@ pub fn put_head(s: &mut [u8], at: usize, head: Head)
     words::store64(s, at + 8, head.second);
 }
 
-// The head at `at`, as staged; with no entries it is read from the pool alone.
-pub fn read_head(pool: &[u8], staging: &[u8], index: &[u8], count: usize, at: usize) -> Head
-    requires { Staged pool.now staging.now count × (at % 8 ≡ 0) × (at + 16 ≤ length pool.now) × Indexed index.now staging.now count }
-    ensures { head_of result.first result.second ≡ part 16 at (seen pool.now staging.now count) }
+// The head at `at`, as staged.
+pub fn read_head(view: &View, at: usize) -> Head
+    requires { (at % 8 ≡ 0) × (at + 16 ≤ length view.now.pool.now) }
+    ensures { head_of result.first result.second ≡ part 16 at (seen_by view.now) }
 {
-    if count == 0 {
-        let first = stage::known_word(pool, staging, 0, at, true);
-        let second = stage::known_word(pool, staging, 0, at + 8, true);
+    // Without entries no word is searched for: speed.
+    if view.count == 0 {
+        let first = stage::known_word(view.pool, view.staging, 0, at, true);
+        let second = stage::known_word(view.pool, view.staging, 0, at + 8, true);
         return Head { first, second };
     }
-    let first = stage::staged_word(pool, staging, index, count, at);
-    let second = stage::staged_word(pool, staging, index, count, at + 8);
+    let first = view.word(at);
+    let second = view.word(at + 8);
     Head { first, second }
 }

@@ -18,6 +18,8 @@ use Rattle.rules.proofs.Segments.{cells-hold}
 use Rattle.stage.specs.View.{part}
 use Rattle.runs.specs.Rest.{Passed, rest_of, walk_of}
 use Rattle.runs.specs.Spotted.{Spotted}
+use Rattle.std.specs.Prelude.{Option as Found, Some, None}
+use Rattle.runs.specs.declared.Run.{Run as MetRun}
 use Rattle.runs.proofs.Rest.{rest-head}
 use Rattle.runs.proofs.Spotted.{stands-run}
 use Rattle.objects.specs.Named.{ObjectAt, object_run, run_tests}
@@ -26,7 +28,7 @@ none-begins : (o : Option Run) → is_object o ≡ false → first (run_tests o)
 unfolding first run_tests
 none-begins o e = rw e
 
-pub spotted-empty : {v : List ℕ} {from n a p m : ℕ} {f : Bool} → Spotted v from n a p m f → m ≡ 0 → first (run_tests (run_at a 0 (walk_of v from n).runs)) ≡ some 24
+pub spotted-empty : {v : List ℕ} {from n a p : ℕ} {o : Found MetRun} → Spotted v from n a p o → o ≡ None → first (run_tests (run_at a 0 (walk_of v from n).runs)) ≡ some 24
 unfolding is_object
 spotted-empty {v} {from} {n} {a} s e = none-begins (run_at a 0 (walk_of v from n).runs) (rw (s.absent e))
 
@@ -35,7 +37,7 @@ unfolding is_object
 free-object (free n) e = refl
 free-object (object n t b g) e = sym e
 
-pub spotted-free : {v : List ℕ} {from n a p m : ℕ} {f : Bool} → Spotted v from n a p m f → (m ≡ 0 → ⊥) → f ≡ true → first (run_tests (run_at a 0 (walk_of v from n).runs)) ≡ some 24
+pub spotted-free : {v : List ℕ} {from n a p : ℕ} {o : Found MetRun} {r : MetRun} → Spotted v from n a p o → o ≡ Some r → r.free ≡ true → first (run_tests (run_at a 0 (walk_of v from n).runs)) ≡ some 24
 spotted-free {v} {from} {n} {a} s e g =
     let t = s.present e in
     none-begins (run_at a 0 (walk_of v from n).runs) (ap is_object (stands-run t) ∙ free-object t.passed.that (t.passed.free-is ∙ g))
@@ -79,7 +81,7 @@ pub record Begins (v : List ℕ) (from n a : ℕ) (h : List ℕ) : Type 0 where
   pub found : run_at a 0 (walk_of v from n).runs ≡ some that
   pub heads : Heads v from n a h that
 
-pub spotted-object : {v : List ℕ} {from n a p m : ℕ} {f : Bool} {h : List ℕ} → Spotted v from n a p m f → (m ≡ 0 → ⊥) → f ≡ false → h ≡ part 16 (from + 64 * a) v → Begins v from n a h
+pub spotted-object : {v : List ℕ} {from n a p : ℕ} {o : Found MetRun} {r : MetRun} {h : List ℕ} → Spotted v from n a p o → o ≡ Some r → r.free ≡ false → h ≡ part 16 (from + 64 * a) v → Begins v from n a h
 spotted-object s e g k =
     let t = s.present e in
     record { that = t.passed.that; found = stands-run t; heads = passed-object t.passed g k }

@@ -1,12 +1,13 @@
 -- What looking for an object at a cell finds (01, refusals 24 and 25). Assumes nothing.
-use Rattle.std.specs.Prelude.{ℕ, ◌+◌, ◌*◌, ◌≤◌, ◌≡◌, true, not, List, [], ◌∷◌, length, drop}
+use Rattle.std.specs.Prelude.{ℕ, ◌+◌, ◌*◌, ◌≤◌, ◌≡◌, true, not, List, [], ◌∷◌, length, drop, Result, Ok, Err}
 use Rattle.std.proofs.Math.Option.{Option, some}
 use Rattle.rules.specs.Test.{Test, first, when}
 use Rattle.rules.specs.Runs.{Run, cells_for, good_in, head_cells, head_length, head_tag, object}
 use Rattle.rules.specs.Zones.{is_damaged, is_object}
+use Rattle.refusals.specs.Number.{number_of}
+use Rattle.refusals.specs.declared.Refusal.{Refusal}
 use Rattle.stage.specs.View.{part}
-use Rattle.objects.specs.declared.Named.{Named}
-use Rattle.objects.specs.declared.Named.TheVariants.{Object, Refused}
+use Rattle.objects.specs.declared.Object.{Object}
 
 -- 24 no object begins there; 25 object damaged.
 unfoldable pub run_tests : Option Run → List Test
@@ -25,6 +26,6 @@ pub record ObjectAt (v : List ℕ) (a : ℕ) (o : Option Run) (n m t : ℕ) : Ty
   pub inside : a + 64 * n ≤ length v
 
 -- The object, by its cells, its body's length and its tag; or the first refusal.
-abbrev pub Names : List ℕ → ℕ → Option Run → Named → Type 0
-Names v a o (Object n m t) = ObjectAt v a o n m t
-Names v a o (Refused k) = first (run_tests o) ≡ some k
+abbrev pub Names : List ℕ → ℕ → Option Run → Result Object Refusal → Type 0
+Names v a o (Ok x) = ObjectAt v a o x.cells x.length x.tag
+Names v a o (Err r) = first (run_tests o) ≡ some (number_of r)

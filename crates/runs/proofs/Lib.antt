@@ -1,3 +1,4 @@
 pub mod Rest
 pub mod Walking
 pub mod Spotted
+pub mod Going

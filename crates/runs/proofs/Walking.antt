@@ -5,8 +5,10 @@ use mathlib.Core.Path.{◌≡◌, sym, ap, ap₂, ◌∙◌}
 use mathlib.Core.Bool.{Bool, true, false}
 use mathlib.Core.List.{List, [], ◌∷◌}
 use native.Mathlib.Omega.{arith}
+use Rattle.std.specs.Prelude.{Some, None}
 use Rattle.rules.specs.Runs.{Run, Walk}
 use Rattle.runs.specs.Rest.{Meets, Passed, Zoned, rest_of, walk_of, walk_on}
+use Rattle.runs.specs.declared.Run.{Run as MetRun}
 use Rattle.runs.proofs.Rest.{walk-broken, walk_end, walk-passed, walk_start}
 
 -- The loop came to cell c, behind a free run or not. F w: its result with what it gathered before, where the walk from there on is w.
@@ -21,8 +23,8 @@ walking_start {F = F} {v = v} {from} {n} z e = record { zoned = z; within = omeg
 
 module _ {R : Type 0} {F : Walk → R} {result : R} {v : List ℕ} {from n c : ℕ} {after : Bool} (i : Walking F result v from n c after) where
   -- the run at cell c
-  pub walking-passed : {m : ℕ} {f : Bool} → c < n → Meets v from n c after m f → (m ≡ 0 → ⊥) → Passed v from n c after m f
-  walking-passed h e k = walk-passed i.zoned h e k
+  pub walking-passed : {r : MetRun} → c < n → Meets v from n c after (Some r) → Passed v from n c after r.cells r.free
+  walking-passed h e = walk-passed i.zoned h e
 
   pub walking-step : {G : Walk → R} {m : ℕ} {f : Bool} (p : Passed v from n c after m f) → ((w : Walk) → F (record { runs = p.that ∷ w.runs; whole = w.whole }) ≡ G w)
       → Walking G result v from n (c + m) f
@@ -34,13 +36,8 @@ module _ {R : Type 0} {F : Walk → R} {result : R} {v : List ℕ} {from n c : �
   pub walking-stop : {b : Bool} → walk_on after (rest_of v from n c) ≡ record { runs = []; whole = b } → F (record { runs = []; whole = b }) ≡ result
   walking-stop e = sym (ap F e) ∙ i.rest
 
-  pub walking-broken : {m : ℕ} {f : Bool} → c < n → Meets v from n c after m f → m ≡ 0 → F (record { runs = []; whole = false }) ≡ result
-  walking-broken h e k = walking-stop (walk-broken i.zoned h e k)
+  pub walking-broken : c < n → Meets v from n c after None → F (record { runs = []; whole = false }) ≡ result
+  walking-broken h e = walking-stop (walk-broken i.zoned h e)
 
   pub walking-end : n ≤ c → F (record { runs = []; whole = true }) ≡ result
   walking-end h = walking-stop (walk_end c after i.zoned h)
-
--- the loop is left: of the walk from there on only counts whether it is whole
-pub walking-judged : {R : Type 0} (H : Bool → R) {result : R} {v : List ℕ} {from n c : ℕ} {after : Bool} → Walking (λ w. H w.whole) result v from n c after → {x b : Bool}
-    → x ≡ (walk_on after (rest_of v from n c)).whole → x ≡ b → H b ≡ result
-walking-judged H i e t = ap H (sym t ∙ e) ∙ i.rest

@@ -1,8 +1,9 @@
 -- The walk over a zone's runs (01, "Cells and runs") from one of its cells on. The zone has n cells from byte `from` of v on.
 -- Assumes nothing.
-use Rattle.std.specs.Prelude.{ℕ, suc, ◌+◌, ◌-◌, ◌*◌, ◌%◌, ◌≤◌, ◌≡◌, Bool, false, List, ◌∷◌, length}
+use Rattle.std.specs.Prelude.{ℕ, suc, ◌+◌, ◌-◌, ◌*◌, ◌%◌, ◌≤◌, ◌≡◌, Bool, List, ◌∷◌, length, Option, Some, None}
 use Rattle.rules.specs.Runs.{Next, Run, Walk, broken, cells, ended, is_free, next_run, run, walk, zone_walk}
 use Rattle.stage.specs.View.{part}
+use Rattle.runs.specs.declared.Run.{Run as MetRun}
 
 -- The zone lies in v.
 pub record Zoned (v : List ℕ) (from n : ℕ) : Type 0 where
@@ -19,20 +20,15 @@ rest_of v from n c = part (64 * (n - c)) (from + 64 * c) v
 unfoldable pub walk_on : Bool → List ℕ → Walk
 walk_on after bs = walk (suc (length bs)) after bs
 
--- A run that is met: its cells, 0 where there is none, and whether it is free.
-abbrev pub met_cells : Next → ℕ
-met_cells ended = 0
-met_cells broken = 0
-met_cells (run r) = cells r
+-- The run that is met at cell c, by its cells and whether it is free; none where there is no right run.
+abbrev pub met : ℕ → Next → Option MetRun
+met c ended = None
+met c broken = None
+met c (run r) = Some (record { cell = c; cells = cells r; free = is_free r })
 
-abbrev pub met_free : Next → Bool
-met_free ended = false
-met_free broken = false
-met_free (run r) = is_free r
-
-pub record Meets (v : List ℕ) (from n c : ℕ) (after : Bool) (m : ℕ) (f : Bool) : Type 0 where
-  pub cells_is : m ≡ met_cells (next_run after (rest_of v from n c))
-  pub free-is : f ≡ met_free (next_run after (rest_of v from n c))
+-- What is met at cell c.
+pub record Meets (v : List ℕ) (from n c : ℕ) (after : Bool) (r : Option MetRun) : Type 0 where
+  pub is : r ≡ met c (next_run after (rest_of v from n c))
 
 -- The run at cell c has m cells; the walk goes on behind it.
 pub record Passed (v : List ℕ) (from n c : ℕ) (after : Bool) (m : ℕ) (f : Bool) : Type 0 where

@@ -1,247 +1,213 @@
 // The walk over a zone's runs (01, "Cells and runs") as staged: judged whole, and a run found by its cell.
 #![tactic(auto)]
 
-ghost use Rattle.std.specs.Prelude.{◌≡◌, true, ◌+◌, ◌*◌, ◌≤◌, ◌<◌};
-ghost use Rattle.std.proofs.Math.Option.{none};
-ghost use Rattle.rules.specs.Search.{run_at};
-ghost use Rattle.stage.specs.Index.{Indexed};
-ghost use Rattle.stage.specs.View.{seen, Staged};
-ghost use Rattle.runs.specs.Rest.{rest_of, walk_of, walk_on, Meets, Zoned};
-ghost use Rattle.runs.specs.Spotted.{free_of, Came, Joined, Lead, Located, Spotted};
+ghost use Rattle.std.specs.Prelude.{◌≡◌, ◌+◌, ◌*◌, ◌≤◌, ◌<◌};
+ghost use Rattle.stage.specs.Seen.{seen_by};
+ghost use Rattle.stage.specs.View.{part};
+ghost use Rattle.heads.specs.HeadWords.{head_of};
+ghost use Rattle.runs.specs.Rest.{rest_of, walk_on, Meets, Zoned};
+ghost use Rattle.runs.specs.Spotted.{free_of, Joined, Lead, Located, Stands};
 
-// A zone's data bytes: where they start, and their cells.
+use heads::Head;
+use stage::View;
+
+// A zone as staged: where its data bytes start, and its cells.
 #[derive(Clone, Copy)]
-pub struct Zone {
+pub struct Zone<'a> {
+    pub view: View<'a>,
     pub from: usize,
     pub cells: usize,
+    pub ghost zoned: { Zoned view.pool.now from cells },
 }
 
-// A run that was met: its cells, 0 where the zone is broken there, and whether it is free.
+// A run that was met: its first cell, its cells, and whether it is free. Free or an object: the only two kinds; both have all other fields.
+// It does not hold its zone, which is ten words long: where both are given, a clause says that it lies there.
 #[derive(Clone, Copy)]
-pub struct Met {
+pub struct Run {
+    pub cell: usize,
     pub cells: usize,
     pub free: bool,
 }
 
-// How far the walk to a cell came: whether it met no broken run; and where it met none, the free cells right before the cell it came to, that
-// cell, and whether a free run stands right before it.
-#[derive(Clone, Copy)]
-struct Way {
-    whole: bool,
-    prior: usize,
-    cell: usize,
-    after: bool,
-}
-
-// A cell where a run may begin: whether its zone is unbroken; and in an unbroken zone the free cells right before it, the run's cells (0 where
-// none begins), and whether it is free.
+// A cell of an unbroken zone: the free cells right before it, and the run that begins there.
 #[derive(Clone, Copy)]
 pub struct Spot {
-    pub whole: bool,
     pub prior: usize,
-    pub cells: usize,
-    pub free: bool,
+    pub run: Option<Run>,
 }
 
-// Some cells of a zone: the first, and how many.
+// Some cells of a zone: the first, and how many. No Range: that is not Copy, and the number is what the callers ask for.
 #[derive(Clone, Copy)]
 pub struct Place {
     pub cell: usize,
     pub count: usize,
 }
 
-// The run at cell `c`, behind a free run or not.
-pub fn meet(
-    pool: &[u8],
-    staging: &[u8],
-    index: &[u8],
-    count: usize,
-    zone: Zone,
-    c: usize,
-    after: bool,
-) -> Met
-    requires { Staged pool.now staging.now count × Zoned pool.now zone.from zone.cells × (c < zone.cells) × Indexed index.now staging.now count }
-    ensures { Meets (seen pool.now staging.now count) zone.from zone.cells c after result.cells result.free }
-{
-    let from = zone.from;
-    let h = heads::read_head(pool, staging, index, count, from + 64 * c);
-    let n = h.cells();
-    if zone.cells - c < n {
-        return Met {
-            cells: 0,
-            free: false,
-        };
+impl Run {
+    // Its free cells.
+    fn free_cells(self) -> usize
+        ensures { result ≡ free_of self.cells self.free }
+    {
+        if self.free { self.cells } else { 0 }
     }
-    if h.free_ok() {
-        if after {
-            return Met {
-                cells: 0,
+}
+
+impl<'a> Zone<'a> {
+    ghost use Rattle.std.specs.Prelude.{false};
+    ghost use Rattle.runs.specs.Taken.{runs_on};
+
+    // Where cell `cell` begins.
+    pub fn place_of(&self, cell: usize) -> usize
+        requires { cell < self.now.cells }
+        ensures { result ≡ self.now.from + 64 * cell }
+    {
+        prove!(cell < self.cells);
+        self.from + 64 * cell
+    }
+
+    // The head at cell `cell`.
+    pub fn head(&self, cell: usize) -> Head
+        requires { cell < self.now.cells }
+        ensures { head_of result.first result.second ≡ part 16 (self.now.from + 64 * cell) (seen_by self.now.view) }
+    {
+        heads::read_head(&self.view, self.place_of(cell))
+    }
+
+    // The run at cell `cell`, behind a free run or not; none where the zone is broken there.
+    pub fn meet(&self, cell: usize, after: bool) -> Option<Run>
+        requires { cell < self.now.cells }
+        ensures { Meets (seen_by self.now.view) self.now.from self.now.cells cell after result }
+    {
+        let h = self.head(cell);
+        let cells = h.cells();
+        if self.cells - cell < cells {
+            return None;
+        }
+        if h.free_ok() {
+            if after {
+                return None;
+            }
+            return Some(Run {
+                cell,
+                cells,
+                free: true,
+            });
+        }
+        if h.object_ok() {
+            return Some(Run {
+                cell,
+                cells,
                 free: false,
-            };
+            });
         }
-        return Met {
-            cells: n,
-            free: true,
-        };
+        None
     }
-    if h.object_ok() {
-        return Met {
-            cells: n,
-            free: false,
-        };
-    }
-    Met {
-        cells: 0,
-        free: false,
-    }
-}
 
-// The free cells of a run that was met.
-fn free_cells(cells: usize, free: bool) -> usize
-    ensures { result ≡ free_of cells free }
-{
-    if free { cells } else { 0 }
-}
-
-// Whether a zone is unbroken from cell `from` on, behind a free run or not.
-pub fn whole_from(
-    pool: &[u8],
-    staging: &[u8],
-    index: &[u8],
-    count: usize,
-    zone: Zone,
-    from: usize,
-    behind: bool,
-) -> bool
-    requires { Staged pool.now staging.now count × Zoned pool.now zone.from zone.cells × (from ≤ zone.cells) × Indexed index.now staging.now count }
-    ensures { result ≡ (walk_on behind (rest_of (seen pool.now staging.now count) zone.from zone.cells from)).whole }
-{
-    let cells = zone.cells;
-    let mut c = from;
-    let mut after = behind;
-    while c < cells {
-        let m = meet(pool, staging, index, count, zone, c, after);
-        let n = m.cells;
-        if n == 0 {
-            return false;
+    // The runs from cell `cell` on, behind a free run or not.
+    pub fn runs_from(&self, cell: usize, after: bool) -> Runs<'a>
+        ensures { result ≡ runs_on self.now cell after }
+    {
+        Runs {
+            zone: *self,
+            cell,
+            after,
         }
-        c += n;
-        after = m.free;
     }
-    true
-}
 
-// The walk to cell `a`, or to the end of the run that covers it.
-fn walk_to(pool: &[u8], staging: &[u8], index: &[u8], count: usize, zone: Zone, a: usize) -> Way
-    requires { Staged pool.now staging.now count × Zoned pool.now zone.from zone.cells × (a < zone.cells) × Indexed index.now staging.now count }
-    ensures { Came (seen pool.now staging.now count) zone.from zone.cells a result.whole result.prior result.cell result.after }
-{
-    let mut prior = 0;
-    let mut c = 0;
-    let mut after = false;
-    while c < a {
-        let m = meet(pool, staging, index, count, zone, c, after);
-        let n = m.cells;
-        if n == 0 {
-            return Way {
-                whole: false,
-                prior,
-                cell: c,
-                after,
-            };
+    // The runs from the first cell on.
+    pub fn runs(&self) -> Runs<'a>
+        ensures { result ≡ runs_on self.now 0 false }
+    {
+        self.runs_from(0, false)
+    }
+
+    // Whether the zone is unbroken from cell `from` on, behind a free run or not.
+    pub fn whole_from(&self, from: usize, behind: bool) -> bool
+        requires { from ≤ self.now.cells }
+        ensures { result ≡ (walk_on behind (rest_of (seen_by self.now.view) self.now.from self.now.cells from)).whole }
+    {
+        self.runs_from(from, behind).all(|met| met.is_some())
+    }
+
+    // The run that begins at cell `a`, if one does; none where the zone is broken: the same walk judges it whole.
+    pub fn locate(&self, a: usize) -> Option<Spot>
+        requires { a < self.now.cells }
+        ensures { Located (seen_by self.now.view) self.now.from self.now.cells a result }
+    {
+        let mut spot = Spot {
+            prior: 0,
+            run: None,
+        };
+        let mut prior = 0;
+        for met in self.runs() {
+            let run = met?;
+            if run.cell == a {
+                spot = Spot {
+                    prior,
+                    run: Some(run),
+                };
+            }
+            prior = run.free_cells();
         }
-        prior = free_cells(n, m.free);
-        c += n;
-        after = m.free;
+        Some(spot)
     }
-    Way {
-        whole: true,
-        prior,
-        cell: c,
-        after,
+
+    // The free cells from cell `c` on.
+    fn lead(&self, c: usize, after: bool) -> usize
+        requires { c ≤ self.now.cells }
+        ensures { Lead (seen_by self.now.view) self.now.from self.now.cells c after result }
+    {
+        if self.cells <= c {
+            return 0;
+        }
+        self.meet(c, after).map_or(0, |run| run.free_cells())
+    }
+
+    // The run at cell `a`, with `prior` free cells right before it, joined with the free runs before and behind it.
+    pub fn joined(&self, a: usize, prior: usize, run: Run) -> Place
+        requires { Stands (seen_by self.now.view) self.now.from self.now.cells a prior run.cells run.free }
+        ensures { Joined (seen_by self.now.view) self.now.from self.now.cells a result.cell result.count }
+    {
+        let behind = self.lead(a + run.cells, run.free);
+        Place {
+            cell: a - prior,
+            count: prior + (run.cells + behind),
+        }
     }
 }
 
-// The run of a zone that begins at cell `a`; the same walk judges the zone whole.
-pub fn locate(pool: &[u8], staging: &[u8], index: &[u8], count: usize, zone: Zone, a: usize) -> Spot
-    requires { Staged pool.now staging.now count × Zoned pool.now zone.from zone.cells × (a < zone.cells) × Indexed index.now staging.now count }
-    ensures { Located (seen pool.now staging.now count) zone.from zone.cells a result.whole result.prior result.cells result.free }
-{
-    let w = walk_to(pool, staging, index, count, zone, a);
-    if !w.whole {
-        return Spot {
-            whole: false,
-            prior: 0,
-            cells: 0,
-            free: false,
-        };
-    }
-    let c = w.cell;
-    if a < c {
-        return Spot {
-            whole: whole_from(pool, staging, index, count, zone, c, w.after),
-            prior: 0,
-            cells: 0,
-            free: false,
-        };
-    }
-    let m = meet(pool, staging, index, count, zone, c, w.after);
-    let n = m.cells;
-    if n == 0 {
-        return Spot {
-            whole: false,
-            prior: 0,
-            cells: 0,
-            free: false,
-        };
-    }
-    Spot {
-        whole: whole_from(pool, staging, index, count, zone, c + n, m.free),
-        prior: w.prior,
-        cells: n,
-        free: m.free,
-    }
+// A zone's runs from a cell on, behind a free run or not: each run that is met, or none where the zone is broken, and nothing behind it.
+#[derive(Drop)]
+pub struct Runs<'a> {
+    pub zone: Zone<'a>,
+    pub cell: usize,
+    // Whether the run before was free: a free run may not follow one.
+    pub after: bool,
 }
 
-// The free cells from cell `c` on.
-fn lead(
-    pool: &[u8],
-    staging: &[u8],
-    index: &[u8],
-    count: usize,
-    zone: Zone,
-    c: usize,
-    after: bool,
-) -> usize
-    requires { Staged pool.now staging.now count × Zoned pool.now zone.from zone.cells × (c ≤ zone.cells) × ((walk_on after (rest_of (seen pool.now staging.now count) zone.from zone.cells c)).whole ≡ true) × Indexed index.now staging.now count }
-    ensures { Lead (seen pool.now staging.now count) zone.from zone.cells c after result }
-{
-    let cells = zone.cells;
-    if cells <= c {
-        return 0;
-    }
-    let m = meet(pool, staging, index, count, zone, c, after);
-    free_cells(m.cells, m.free)
-}
+impl Iterator for Runs<'_> {
+    ghost use Rattle.std.specs.Prelude.{◌-◌};
+    ghost use Rattle.std.specs.Iterator.{at_most};
+    ghost use Rattle.runs.specs.Taken.{Gives};
 
-// The run at cell `a` of an unbroken zone, located, with the free runs before and behind it.
-pub fn joined(
-    pool: &[u8],
-    staging: &[u8],
-    index: &[u8],
-    count: usize,
-    zone: Zone,
-    a: usize,
-    s: Spot,
-) -> Place
-    requires { Staged pool.now staging.now count × Zoned pool.now zone.from zone.cells × (a < zone.cells) × ((walk_of (seen pool.now staging.now count) zone.from zone.cells).whole ≡ true) × (run_at a 0 (walk_of (seen pool.now staging.now count) zone.from zone.cells).runs ≡ none → ⊥) × Spotted (seen pool.now staging.now count) zone.from zone.cells a s.prior s.cells s.free × Indexed index.now staging.now count }
-    ensures { Joined (seen pool.now staging.now count) zone.from zone.cells a result.cell result.count }
-{
-    let n = s.cells;
-    let prior = s.prior;
-    let b = lead(pool, staging, index, count, zone, a + n, s.free);
-    Place {
-        cell: a - prior,
-        count: prior + (n + b),
+    type Item = Option<Run>;
+
+    ghost next_gives = { Gives };
+
+    ghost remaining = { λ s. at_most (s.zone.cells - s.cell) };
+
+    fn next(&mut self) -> Option<Option<Run>> {
+        if self.zone.cells <= self.cell {
+            return None;
+        }
+        let met = self.zone.meet(self.cell, self.after);
+        match met {
+            Some(run) => {
+                self.cell += run.cells;
+                self.after = run.free;
+            }
+            None => self.cell = self.zone.cells,
+        }
+        Some(met)
     }
 }

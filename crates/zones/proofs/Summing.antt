@@ -6,20 +6,11 @@ use native.Mathlib.Nat.{sub-zero, suc-mul, zero-add}
 use native.Mathlib.Numerals.{add-one}
 use native.Mathlib.Omega.{arith}
 use Rattle.rules.specs.Shape.{Shape as PoolShape}
-use Rattle.rules.specs.Runs.{Run}
-use Rattle.rules.specs.Zones.{runs_from}
+use Rattle.rules.specs.Runs.{Run, Walk}
+use Rattle.rules.specs.Zones.{runs_from, walk_in}
 use Rattle.rules.specs.Scan.{sum_runs}
 use Rattle.rules.proofs.Numbers.{less}
 use Rattle.rules.proofs.Sums.{sum-append}
-use Rattle.layout.specs.declared.Shape.{Shape}
-use Rattle.layout.specs.Meaning.{InRange, shape_of}
-use Rattle.layout.proofs.Range.{shape-good}
-use Rattle.runs.specs.Rest.{walk_of}
-use Rattle.zones.specs.Found.{ZoneIs}
-use Rattle.zones.proofs.Searching.{walk-in}
-
-pub cells-small : (s : Shape) → InRange (shape_of s) → {z from n : ℕ} → ZoneIs (shape_of s) z from n → n < 65536
-cells-small s r e = omega (arith, e.cells_is, (shape-good s r).runs)
 
 -- the runs of the zones before z add up to k, at most b a zone
 pub record SummingZones (f : Run → ℕ) (b : ℕ) (s : PoolShape) (v : List ℕ) (z k : ℕ) : Type 0 where
@@ -29,11 +20,11 @@ pub record SummingZones (f : Run → ℕ) (b : ℕ) (s : PoolShape) (v : List �
 pub summing_start : (f : Run → ℕ) (b : ℕ) (s : PoolShape) (v : List ℕ) → SummingZones f b s v 0 0
 summing_start f b s v = record { rest = rw (sub-zero s.zones) (zero-add _); few = omega arith }
 
-pub summing-step : {f : Run → ℕ} {b : ℕ} {s : PoolShape} {v : List ℕ} {z k from n j : ℕ} → SummingZones f b s v z k → z < s.zones → ZoneIs s z from n
-    → j ≡ sum_runs f (walk_of v from n).runs → j ≤ b → SummingZones f b s v (z + 1) (k + j)
+pub summing-step : {f : Run → ℕ} {b : ℕ} {s : PoolShape} {v : List ℕ} {z k j : ℕ} {w : Walk} → SummingZones f b s v z k → z < s.zones → walk_in s v z ≡ w
+    → j ≡ sum_runs f w.runs → j ≤ b → SummingZones f b s v (z + 1) (k + j)
 unfolding runs_from
 summing-step {f} {b} {s} {v} {z} {k} i h e q l =
-    let r = rw (less s.zones z h, walk-in v e, sum-append f, ← (add-one z)) at i.rest in
+    let r = rw (less s.zones z h, e, sum-append f, ← (add-one z)) at i.rest in
     let m : (z + 1) * b ≡ z * b + b = ap (λ (x : ℕ). x * b) (add-one z) ∙ suc-mul z b in
     record { rest = omega (arith, r); few = omega (arith, i.few) }
 

@@ -1,38 +1,24 @@
 -- `objects::feed_part` meets its contract. Assumes nothing.
-use mathlib.Core.Path.{◌≡◌}
-use native.Mathlib.Nat.{le_refl}
-use Prim.Native.Nat.{◌-◌, ◌≤◌}
-use Rattle.objects.proofs.Feeding.{fed-pool, feeding-start, feeding-step, feeding-end}
+use Prim.Native.Nat.{◌/◌, ◌%◌}
+use mathlib.Core.Path.{◌≡◌, refl}
 use native.Mathlib.Omega.{arith}
+use Rattle.objects.proofs.Feeding.{fed-pool, feeding-end, feeding-start, feeding-step}
 use Rattle.objects.proofs.feed_part.Goals as goal
 
-pub returns-then-count-eq0 : goal.returns-then-count-eq0
-returns-then-count-eq0 c = fed-pool _ _ _ _ c.if-count-eq0.true c.feed.ensures
+pub returns-then-view-eq0 : goal.returns-then-view-eq0
+returns-then-view-eq0 c = fed-pool c.args.view.now _ _ c.if-view-eq0.true c.feed.ensures
 
-pub loop-left-init : goal.loop-left-init
-loop-left-init c = (c.requires.1, c.requires.2, feeding-start _ _ _ c.requires.3)
+pub loop-i-init : goal.loop-i-init
+loop-i-init c = feeding-start _ _ _ c.args.s.below (omega arith) (omega arith)
 
-pub staged_word-requires : goal.staged_word-requires
-staged_word-requires c = (c.requires.0, c.loop-left.invariant.0, omega arith, c.requires.4)
-
-pub feed_word-sums-requires : goal.feed_word-sums-requires
-feed_word-sums-requires c = (c.loop-left.invariant.2.below, omega arith)
-
-pub loop-left-preserved : goal.loop-left-preserved
-loop-left-preserved c = (omega arith, omega arith, feeding-step 8 (omega arith) c.loop-left-test.true c.loop-left.invariant.2 c.staged_word.ensures c.feed_word-sums.ensures)
+pub loop-i-preserved : goal.loop-i-preserved
+loop-i-preserved c = feeding-step 8 (omega arith) (omega arith) (omega arith) c.loop-i.invariant c.word.ensures c.feed_word-sums.ensures
 
 pub returns-then-left-eq0 : goal.returns-then-left-eq0
-returns-then-left-eq0 c = feeding-end c.loop-left.invariant.2 c.if-left-eq0.true
-
-pub staged_word-requires-2 : goal.staged_word-requires-2
-staged_word-requires-2 c = (c.requires.0, c.loop-left.invariant.0, omega (arith, c.requires.0.words), c.requires.4)
-
-pub feed_word-requires : goal.feed_word-requires
-feed_word-requires c = (c.loop-left.invariant.2.below, omega arith)
+returns-then-left-eq0 c = feeding-end c.loop-i.invariant (omega arith)
 
 pub returns : goal.returns
 returns c =
-    let l = c.loop-left in
-    let k : l.left ≤ 8 = omega arith in
-    let z : l.left - l.left ≡ 0 = omega arith in
-    feeding-end (feeding-step l.left k (le_refl l.left) l.invariant.2 c.staged_word-2.ensures c.feed_word.ensures) z
+    let l = c.loop-i in
+    let e : c.args.n / 8 ≡ l.i = omega arith in
+    feeding-end (feeding-step (c.args.n % 8) {j = 0} (omega arith) refl (omega arith) l.invariant (rw e at c.word-2.ensures) c.feed_word.ensures) refl

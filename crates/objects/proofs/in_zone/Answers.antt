@@ -1,31 +1,31 @@
 -- `objects::in_zone` meets its contract. Assumes nothing.
 use native.Mathlib.Omega.{arith}
-use Rattle.objects.proofs.Naming.{spotted-empty, spotted-free, spotted-object}
+use Rattle.stage.proofs.Views.{length-by}
+use Rattle.objects.proofs.Naming.{object-damaged, object-good, spotted-empty, spotted-free, spotted-object}
 use Rattle.objects.proofs.in_zone.Goals as goal
 
-pub returns-then-s-eq0 : goal.returns-then-s-eq0
-returns-then-s-eq0 c = spotted-empty c.requires.3 c.if-s-eq0.true
+pub returns-in_default : goal.returns-in_default
+returns-in_default c = spotted-empty c.requires.1 c.in_default.is
 
-pub returns-then-s : goal.returns-then-s
-returns-then-s c = spotted-free c.requires.3 c.if-s-eq0.false c.if-s.true
+pub returns-then-run : goal.returns-then-run
+returns-then-run c = spotted-free c.requires.1 c.in-Some.is c.if-run.true
 
-pub overflow_mul-at : goal.overflow_mul-at
-overflow_mul-at c = let p = c.requires in omega (arith, p.1.inside, p.2)
+pub intact-requires : goal.intact-requires
+intact-requires c =
+    let z = c.args.zone.now.zoned in
+    let b = spotted-object c.requires.1 c.in-Some.is c.if-run.false c.head-head.ensures in
+    rw c.place_of-at.ensures (omega (arith, z.even), omega (arith, b.heads.inside, z.inside), b.heads.ok)
 
-pub overflow_add-at : goal.overflow_add-at
-overflow_add-at c = let p = c.requires in omega (arith, p.1.inside, p.2)
-
-pub read_head-requires : goal.read_head-requires
-read_head-requires c = let p = c.requires in (p.0, omega (arith, p.1.even), omega (arith, p.1.inside, p.2), p.4)
-
-pub object-requires : goal.object-requires
-object-requires c =
-    let p = c.requires in
-    let b = spotted-object p.3 c.if-s-eq0.false c.if-s.false c.read_head.ensures in
-    (p.0, omega (arith, p.1.even), omega (arith, b.heads.inside, p.1.inside), b.heads.ok, p.4)
+pub returns-then-not-intact : goal.returns-then-not-intact
+returns-then-not-intact c =
+    let b = spotted-object c.requires.1 c.in-Some.is c.if-run.false c.head-head.ensures in
+    let i = rw c.place_of-at.ensures at c.intact.ensures in
+    rw (b.found, b.heads.is) (object-damaged _ _ _ i c.if-not-intact.true)
 
 pub returns : goal.returns
 returns c =
-    let p = c.requires in
-    let b = spotted-object p.3 c.if-s-eq0.false c.if-s.false c.read_head.ensures in
-    rw (b.found, b.heads.is) c.object.ensures
+    let z = c.args.zone.now.zoned in
+    let b = spotted-object c.requires.1 c.in-Some.is c.if-run.false c.head-head.ensures in
+    let i = rw c.place_of-at.ensures at c.intact.ensures in
+    rw (b.found, b.heads.is)
+    (object-good _ _ _ i c.if-not-intact.false b.heads.ok c.cells.ensures.0 c.body.ensures.0 c.tag.ensures (omega (arith, b.heads.inside, z.inside, length-by c.args.zone.now.view)))

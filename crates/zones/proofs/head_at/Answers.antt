@@ -9,9 +9,9 @@ use Rattle.zones.proofs.head_at.Goals as goal
 
 pub overflow_add-result : goal.overflow_add-result
 overflow_add-result c =
-    let k : 0 < c.cells-cells.result = omega (arith, cells-some c.args.s c.requires.0, c.cells-cells.ensures.0) in
+    let k : 0 < c.cells-cells.result = omega (arith, cells-some c.args.s, c.cells-cells.ensures.0) in
     let l : c.args.a % c.cells-cells.result < 65536 = omega (arith, mod-lt c.args.a k, c.cells-cells.ensures.1) in
-    omega (arith, l, size-bounds c.args.s c.requires.0)
+    omega (arith, l, size-bounds c.args.s)
 
 pub returns : goal.returns
 unfolding head_at

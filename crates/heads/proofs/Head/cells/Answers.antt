@@ -4,4 +4,4 @@ use native.Mathlib.Omega.{arith}
 use Rattle.heads.proofs.Head.cells.Goals as goal
 
 pub returns : goal.returns
-returns c = let s = c.args.self in omega (arith, head-cells s.first s.second, c.struct_known-1.given)
+returns c = let s = c.args.self in omega (arith, head-cells s.first s.second)

@@ -4,4 +4,4 @@ use native.Mathlib.Omega.{arith}
 use Rattle.heads.proofs.Head.tag.Goals as goal
 
 pub returns : goal.returns
-returns c = let s = c.args.self in omega (arith, head-tag s.first s.second, c.struct_known-1.given)
+returns c = let s = c.args.self in omega (arith, head-tag s.first s.second)

@@ -19,9 +19,10 @@ use Rattle.powercut.specs.Commit.{made_answer}
 use Rattle.powercut.proofs.StepCount.{commit-log, commit-redo, commit-seal, none, redo-barrier, redo-data, redo-parity, redo-tail}
 use Rattle.words.specs.Loaded.{Loaded}
 use Rattle.layout.specs.declared.Shape.{Shape}
-use Rattle.layout.specs.Meaning.{InRange, Shaped, shape_of}
-use Rattle.layout.proofs.Range.{shape-good}
-use Rattle.layout.proofs.Opening.{shaped-room}
+use Rattle.layout.specs.declared.opened.Pool.{Pool}
+use Rattle.layout.specs.Meaning.{shape_of}
+use Rattle.layout.proofs.Range.{in_range, shape-good}
+use Rattle.layout.proofs.Opening.{pool-shaped, shaped-room}
 use Rattle.columns.specs.Column.{Word}
 use Rattle.pool_log.specs.Targets.{all_fit, fits, read}
 use Rattle.pool_log.proofs.Targets.{entry, fits-row, loaded_word}
@@ -99,14 +100,14 @@ seal-list s p w (suc (suc (suc zero))) rest h = refl
 seal-list s p w (suc (suc (suc (suc k)))) rest h =
     rw (ne_eqb (suc (suc (suc (suc k)))) 1 (λ e. omega arith), ne_eqb (suc (suc (suc (suc k)))) 2 (λ e. omega arith), h k (omega arith))
 
-module _ (s : Shape) (r : InRange (shape_of s)) (w k : ℕ) where
+module _ (s : Shape) (w k : ℕ) where
   pub seal-first : (a : ℕ) → k ≡ 1 → a ≡ log_a (shape_of s) → Computed (seal_action (shape_of s) w k) (zones_at (shape_of s)) (Store a w)
   unfolding seal_action
-  seal-first a e f = let g = (shape-good s r).page-min in record { value = rw (eq-eqb k 1 e, f); inside = omega arith }
+  seal-first a e f = let g = (shape-good s).page-min in record { value = rw (eq-eqb k 1 e, f); inside = omega arith }
 
   pub seal-second : (b : ℕ) → (k ≡ 1 → ⊥) → k ≡ 2 → b ≡ log_b (shape_of s) → Computed (seal_action (shape_of s) w k) (zones_at (shape_of s)) (Store b w)
   unfolding seal_action
-  seal-second b n e f = let g = (shape-good s r).page-min in record { value = rw (ne_eqb k 1 n, eq-eqb k 2 e, f); inside = omega arith }
+  seal-second b n e f = let g = (shape-good s).page-min in record { value = rw (ne_eqb k 1 n, eq-eqb k 2 e, f); inside = omega arith }
 
   pub seal-barrier : (k ≡ 1 → ⊥) → (k ≡ 2 → ⊥) → Computed (seal_action (shape_of s) w k) (zones_at (shape_of s)) Barrier
   unfolding seal_action
@@ -121,16 +122,20 @@ computed_more {r = r} {m = m} {n = n} c e h = record { value = c.value ∙ e; in
 
 -- ---- clearing both seals
 
-module _ (s : Shape) (p : List ℕ) (k : ℕ) (h : Shaped p (shape_of s)) where
-  clear-is : seal_action (shape_of s) 0 (suc k) ≡ clear_action (shape_of s) p k
+module _ (p : Pool) (k : ℕ) where
+  clear-is : seal_action (shape_of p.shape) 0 (suc k) ≡ clear_action (shape_of p.shape) p.bytes.now k
   unfolding clear_action recovery_steps
-  clear-is = seal-list s p 0 (suc k) [] (λ j e. refl)
+  clear-is = seal-list p.shape p.bytes.now 0 (suc k) [] (λ j e. refl)
 
-  pub clear-seal : (r : Action) → Computed (seal_action (shape_of s) 0 (k + 1)) (zones_at (shape_of s)) r → Computed (clear_action (shape_of s) p k) (length p) r
-  clear-seal r c = computed_more c (ap (seal_action (shape_of s) 0) (omega arith) ∙ clear-is) (shaped-room p s h)
+  zones-in : zones_at (shape_of p.shape) ≤ length p.bytes.now
+  zones-in = shaped-room p.bytes.now p.shape (pool-shaped p)
 
-  pub clear-barrier : 2 ≤ k → Computed (clear_action (shape_of s) p k) (length p) Barrier
-  clear-barrier l = computed_more (seal-barrier s h.range 0 (suc k) (λ e. omega arith) (λ e. omega arith)) clear-is (shaped-room p s h)
+  pub clear-seal : {r : Action} → Computed (seal_action (shape_of p.shape) 0 (k + 1)) (zones_at (shape_of p.shape)) r
+      → Computed (clear_action (shape_of p.shape) p.bytes.now k) (length p.bytes.now) r
+  clear-seal c = computed_more c (ap (seal_action (shape_of p.shape) 0) (omega arith) ∙ clear-is) zones-in
+
+  pub clear-barrier : 2 ≤ k → Computed (clear_action (shape_of p.shape) p.bytes.now k) (length p.bytes.now) Barrier
+  clear-barrier l = computed_more (seal-barrier p.shape 0 (suc k) (λ e. omega arith) (λ e. omega arith)) clear-is zones-in
 
 -- ---- words of an entry
 
@@ -138,33 +143,33 @@ pub data-loaded : (p : List ℕ) (a u v : ℕ) → Loaded 8 p a u → Loaded 8 p
 data-loaded p a u v e f = ap₂ Store (loaded_word e) (loaded_word f)
 
 -- of the k-th word of part 1
-module _ (s : Shape) (r : InRange (shape_of s)) (p : List ℕ) (n k u : ℕ) (h : k < 4 * n) (f : n ≤ entry_limit) (w : Loaded 8 p (16 * (k / 4) + 8 * (k % 2)) u) where
+module _ (s : Shape) (p : List ℕ) (n k u : ℕ) (h : k < 4 * n) (f : n ≤ entry_limit) (w : Loaded 8 p (16 * (k / 4) + 8 * (k % 2)) u) where
   pub log-first : (a : ℕ) → k % 4 < 2 → a ≡ log_a (shape_of s) → Computed (log_action (shape_of s) p k) (zones_at (shape_of s)) (Store (a + 16 + (16 * (k / 4) + 8 * (k % 2))) u)
   unfolding log_action
-  log-first a l e = let g = (shape-good s r).page-min in record { value = rw (lt-ltb (k % 4) 2 l, e, loaded_word w); inside = omega arith }
+  log-first a l e = let g = (shape-good s).page-min in record { value = rw (lt-ltb (k % 4) 2 l, e, loaded_word w); inside = omega arith }
 
   pub log-second : (b : ℕ) → 2 ≤ k % 4 → b ≡ log_b (shape_of s) → Computed (log_action (shape_of s) p k) (zones_at (shape_of s)) (Store (b + 16 + (16 * (k / 4) + 8 * (k % 2))) u)
   unfolding log_action
-  log-second b l e = let g = (shape-good s r).page-min in record { value = rw (le-ltb (k % 4) 2 l, e, loaded_word w); inside = omega arith }
+  log-second b l e = let g = (shape-good s).page-min in record { value = rw (le-ltb (k % 4) 2 l, e, loaded_word w); inside = omega arith }
 
 -- ---- a word of the zones, and its parity
 
-module _ (s : Shape) (r : InRange (shape_of s)) (p : List ℕ) (h : length p ≡ pool_size (shape_of s)) (t : ℕ) (i : InZones (shape_of s) t) where
+module _ (s : Shape) (p : List ℕ) (h : length p ≡ pool_size (shape_of s)) (t : ℕ) (i : InZones (shape_of s) t) where
   word_in : t + 8 ≤ length p
-  word_in = let b = word_fits (shape_of s) (shape-good s r) t i.even i.high in omega arith
+  word_in = let b = word_fits (shape_of s) (shape-good s) t i.even i.high in omega arith
 
   pub parity-worked : (a v : ℕ) → a ≡ parity_at (shape_of s) t → Word (parity_word (shape_of s) p t) v → Computed (parity_action (shape_of s) p t) (length p) (Store a v)
   unfolding parity_action
   parity-worked a v e f =
-      let k = row_in (shape_of s) (shape-good s r) t s.rows i (omega arith) in
-      let b = word_fits (shape_of s) (shape-good s r) (parity_at (shape_of s) t) k.even k.high in
+      let k = row_in (shape_of s) (shape-good s) t s.rows i (omega arith) in
+      let b = word_fits (shape_of s) (shape-good s) (parity_at (shape_of s) t) k.even k.high in
       record { value = ap₂ Store e f.value; inside = omega arith }
 
 -- ---- parts 3 to 5
 
-module _ (s : Shape) (r : InRange (shape_of s)) (p src : List ℕ) (at n k : ℕ) (h : Ready (shape_of s) p src at n k) where
+module _ (s : Shape) (p src : List ℕ) (at n k : ℕ) (h : Ready (shape_of s) p src at n k) where
   pool-holds : zones_at (shape_of s) ≤ length p
-  pool-holds = shaped-room p s (record { range = r; size = h.whole })
+  pool-holds = shaped-room p s (record { range = in_range s; size = h.whole })
 
   pub target-in : (j : ℕ) → j < n → k < 2 * n + 1 → InZones (shape_of s) (word src (at + 16 * j))
   target-in j l u = fits_in (shape_of s) (word src (at + 16 * j)) (fits-at (shape_of s) src at n j (h.right u) l)
@@ -180,7 +185,7 @@ module _ (s : Shape) (r : InRange (shape_of s)) (p src : List ℕ) (at n k : ℕ
       let c = length-read src at n in
       record {
         value = redo-at a _ k (e ∙ ap (λ x. action_of (shape_of s) p (store x)) (sym (entry_at src at n k l))) (redo-data (shape_of s) (read src at n) k (omega arith)) refl;
-        inside = rw e (word_in s r p h.whole (word src (at + 16 * k)) (target-in k l (omega arith)));
+        inside = rw e (word_in s p h.whole (word src (at + 16 * k)) (target-in k l (omega arith)));
       }
 
   pub redo-barrier-out : k ≡ n → Computed (redo_action (shape_of s) p src at n k) (length p) Barrier
@@ -209,12 +214,12 @@ module _ (s : Shape) (r : InRange (shape_of s)) (p src : List ℕ) (at n k : ℕ
 
 -- ---- a whole commit
 
-module _ (s : Shape) (r : InRange (shape_of s)) (p src : List ℕ) (n k : ℕ) (h : Ready (shape_of s) p src 0 n 0) (some : 1 ≤ n) where
+module _ (s : Shape) (p src : List ℕ) (n k : ℕ) (h : Ready (shape_of s) p src 0 n 0) (some : 1 ≤ n) where
   pub ready-later : (j : ℕ) → Ready (shape_of s) p src 0 n j
   ready-later j = record { whole = h.whole; few = h.few; held = h.held; right = λ u. h.right (omega arith) }
 
   pub commit-log-out : (a : Action) → k < 4 * n → Computed (log_action (shape_of s) src k) (zones_at (shape_of s)) a → Computed (commit_action (shape_of s) p src n k) (length p) a
-  commit-log-out a l e = computed_more e (log_is s p src n k l) (pool-holds s r p src 0 n 0 h)
+  commit-log-out a l e = computed_more e (log_is s p src n k l) (pool-holds s p src 0 n 0 h)
 
   pub commit-seal-out : (a : Action) (w : ℕ) → 4 * n ≤ k → k - 4 * n < 4 → w ≡ seal_of (read src 0 n) → Computed (seal_action (shape_of s) w (k - 4 * n)) (zones_at (shape_of s)) a
       → Computed (commit_action (shape_of s) p src n k) (length p) a
@@ -225,7 +230,7 @@ module _ (s : Shape) (r : InRange (shape_of s)) (p src : List ℕ) (n k : ℕ) (
       computed_more e
       (ap (λ (y : ℕ). seal_action (shape_of s) y (k - 4 * n)) v ∙ seal-list s p (seal_of (read src 0 n)) (k - 4 * n) (redo (shape_of s) (read src 0 n)) (λ j e. absurd (omega arith))
       ∙ ap (action_of (shape_of s) p) (sym (commit-seal (shape_of s) (read src 0 n) (k - 4 * n) (omega arith)) ∙ ap (λ (y : ℕ). get_or (commit_steps (shape_of s) (read src 0 n)) y barrier) x))
-      (pool-holds s r p src 0 n 0 h)
+      (pool-holds s p src 0 n 0 h)
 
   pub commit-redo-out : (a : Action) → 4 * n ≤ k → 4 ≤ k - 4 * n → Computed (redo_action (shape_of s) p src 0 n (k - 4 * n - 4)) (length p) a
       → Computed (commit_action (shape_of s) p src n k) (length p) a

@@ -15,7 +15,7 @@ use Rattle.powercut.proofs.Parts.{redo-high, redo-low}
 use Rattle.powercut.proofs.StepCount.{commit-count, commit-redo, commit-seal, redo-barrier, redo-count, redo-data, redo-tail}
 use Rattle.words.specs.Loaded.{Loaded}
 use Rattle.layout.specs.declared.Shape.{Shape}
-use Rattle.layout.specs.Meaning.{InRange, shape_of}
+use Rattle.layout.specs.Meaning.{shape_of}
 use Rattle.pool_log.specs.Targets.{read}
 use Rattle.pool_log.proofs.Logs.{length-read}
 use Rattle.actions.specs.declared.Action.{Action}
@@ -92,14 +92,14 @@ module _ (sh : PoolShape) (src : List ℕ) (n : ℕ) where
   commit-long : 1 ≤ n → length commit_of ≡ 6 * n + 9
   commit-long some = let l = length-read src 0 n in commit-count sh (read src 0 n) (omega arith) ∙ ap (λ (x : ℕ). 6 * x + 9) l
 
-module _ (s : Shape) (r : InRange (shape_of s)) (p₀ src : List ℕ) (n k₀ : ℕ) (h : Ready (shape_of s) p₀ src 0 n 0) (some : 1 ≤ n) where
+module _ (s : Shape) (p₀ src : List ℕ) (n k₀ : ℕ) (h : Ready (shape_of s) p₀ src 0 n 0) (some : 1 ≤ n) where
   abbrev listed : List Step
   listed = commit_of (shape_of s) src n
 
   module _ {i : ℕ} {p : List ℕ} (a : Along (shape_of s) listed (4 * n) k₀ p₀ i p) where
     module _ {x : Action} (l : i < 4 * n) (c : Computed (log_action (shape_of s) src i) (zones_at (shape_of s)) x) where
       log-made : Computed (commit_action (shape_of s) p src n i) (length p) x
-      log-made = commit-log-out s r p src n i (ready-kept h a.kept (omega arith)) some x l c
+      log-made = commit-log-out s p src n i (ready-kept h a.kept (omega arith)) some x l c
 
       pub log-inside : Inside x (length p)
       log-inside = log-made.inside
@@ -137,13 +137,13 @@ module _ (sh : PoolShape) (src : List ℕ) (at n : ℕ) where
         let m = redo-long in
         along-end a l (omega arith) (ap (λ (x : ℕ). get_or redo_of x barrier) (sym (length-read src at n)) ∙ redo-barrier sh (read src at n)) (omega arith)
 
-module _ (s : Shape) (r : InRange (shape_of s)) (p₀ src : List ℕ) (at n k₀ : ℕ) where
+module _ (s : Shape) (p₀ src : List ℕ) (at n k₀ : ℕ) where
   abbrev steps_of : List Step
   steps_of = redo (shape_of s) (read src at n)
 
   pub data-inside : {i : ℕ} {p : List ℕ} {x : Action} → Ready (shape_of s) p₀ src at n k₀ → Along (shape_of s) steps_of n k₀ p₀ i p → i < n
       → x ≡ Store (word src (at + 16 * i)) (word src (at + 16 * i + 8)) → Inside x (length p)
-  data-inside {i} {p} {x} h a l e = (redo-data-out s r p src at n i (ready-kept h a.kept a.from) x l e).inside
+  data-inside {i} {p} {x} h a l e = (redo-data-out s p src at n i (ready-kept h a.kept a.from) x l e).inside
 
   module _ (h : Ready (shape_of s) p₀ src at n (n + 1 + k₀)) {i : ℕ} {p : List ℕ} (a : Along (shape_of s) steps_of (2 * n + 1) (n + 1 + k₀) p₀ (n + 1 + i) p) where
     pub parity-end : n ≤ i → PartMade (shape_of s) steps_of (n + 1 + k₀) (2 * n + 1) p₀ p (2 * n + 2)
@@ -161,11 +161,11 @@ module _ (s : Shape) (r : InRange (shape_of s)) (p₀ src : List ℕ) (at n k₀
       loaded = let e : i ≡ n + 1 + i - n - 1 = omega arith in rw (← e) w
 
       pub parity-ready : InZones (shape_of s) t
-      parity-ready = redo-parity-ready s r p src at n (n + 1 + i) ready t (omega arith) (λ e. omega arith) (omega arith) loaded
+      parity-ready = redo-parity-ready s p src at n (n + 1 + i) ready t (omega arith) (λ e. omega arith) (omega arith) loaded
 
       module _ {x : Action} (c : Computed (parity_action (shape_of s) p t) (length p) x) where
         parity-made : Computed (redo_action (shape_of s) p src at n (n + 1 + i)) (length p) x
-        parity-made = redo-parity-out s r p src at n (n + 1 + i) ready x t (omega arith) (λ e. omega arith) (omega arith) loaded c
+        parity-made = redo-parity-out s p src at n (n + 1 + i) ready x t (omega arith) (λ e. omega arith) (omega arith) loaded c
 
         pub parity-next : {q : List ℕ} → q ≡ applied x p → length q ≡ length p → Along (shape_of s) steps_of (2 * n + 1) (n + 1 + k₀) p₀ (n + 1 + (i + 1)) q
         unfolding redo_action

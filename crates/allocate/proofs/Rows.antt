@@ -34,9 +34,6 @@ touched-append {st} {n = n} {k = k} {j} {o} {xs = xs} {ys} l s e t = record {
   most = omega (arith, s.most, t.most);
 }
 
-pub touched-whole : {st st' : List ℕ} {n m k i o : ℕ} {ys : List ℕ} → i ≤ k → k ≤ i → TouchedWords st n i o ys st' m → TouchedWords st n k o ys st' m
-touched-whole {k = k} {i} h l t = let e : k ≡ i = omega arith in rw e t
-
 pub room-part : {st : List ℕ} {n o : ℕ} (k j : ℕ) → Room st n (k + j) o → Room st n k o
 room-part {st} {n} {o} k j r = record { held = omega (arith, r.held, missing-append k j o (entries_of st n)) }
 

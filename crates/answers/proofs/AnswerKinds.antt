@@ -1,19 +1,18 @@
--- What an answer's kind tells of it. Assumes nothing.
-use Prim.Native.Nat.{ℕ}
+-- An answer that is no refusal. Assumes nothing.
 use mathlib.Core.Path.{◌≡◌, refl}
-use lib.Dec.{eqb}
-use Rattle.rules.specs.Answer.{Answer, address, done, is_refused, passed, refused, started, stored, taken}
-use Rattle.answers.specs.Meaning.{kind_of}
+use mathlib.Core.Bool.{false}
+use Rattle.refusals.specs.declared.Refusal.{Refusal}
+use Rattle.rules.specs.Answer.{is_refused}
+use Rattle.answers.specs.declared.Answer.{Answer}
+use Rattle.answers.specs.declared.Answer.TheVariants.{Address, Barrier, Done, Refused, Started, Stored, Taken}
+use Rattle.answers.specs.Meaning.{answer_of}
 
-refused-is : (a : Answer) → eqb (kind_of a) 0 ≡ is_refused a
+pub refused_only : (a : Answer) → ((r : Refusal) → a ≡ Refused r → ⊥) → false ≡ is_refused (answer_of a)
 unfolding is_refused
-refused-is (address a) = refl
-refused-is taken = refl
-refused-is started = refl
-refused-is (stored k) = refl
-refused-is (passed k) = refl
-refused-is (done k) = refl
-refused-is (refused n) = refl
-
-pub refused-kind : (a : Answer) {k : ℕ} → k ≡ kind_of a → (n : ℕ) → n ≡ 0 → eqb k n ≡ is_refused a
-refused-kind a e n h = rw (e, h) (refused-is a)
+refused_only (Address a) h = refl
+refused_only Taken h = refl
+refused_only Started h = refl
+refused_only (Stored k) h = refl
+refused_only (Barrier k) h = refl
+refused_only (Done k) h = refl
+refused_only (Refused r) h = absurd (h r refl)

@@ -1,6 +1,7 @@
 -- What the code's answers mean in 01's terms: this paper's number and values for each case; and an answer as two numbers. Assumes nothing.
 use Rattle.std.specs.Prelude.{ℕ}
 use Rattle.rules.specs.Answer as Paper
+use Rattle.refusals.specs.Number.{number_of}
 use Rattle.answers.specs.declared.Answer.{Answer}
 use Rattle.answers.specs.declared.Answer.TheVariants.{Address, Barrier, Done, Refused, Started, Stored, Taken}
 
@@ -11,7 +12,7 @@ answer_of Started = Paper.started
 answer_of (Stored k) = Paper.stored k
 answer_of (Barrier k) = Paper.passed k
 answer_of (Done k) = Paper.done k
-answer_of (Refused n) = Paper.refused n
+answer_of (Refused r) = Paper.refused (number_of r)
 
 -- The kind, as include/pool.h numbers them.
 abbrev pub kind_of : Paper.Answer → ℕ

@@ -1,6 +1,6 @@
 -- What allocate, write and free do once a transaction is judged (01, "Transactions"): the tests of the call, then 27, then the words staged.
 -- Assumes nothing.
-use Rattle.std.specs.Prelude.{ℕ, ◌≤◌, List, [], ◌∷◌, ◌++◌, length, ltb}
+use Rattle.std.specs.Prelude.{ℕ, ◌≤◌, List, [], ◌∷◌, ◌++◌, length, ltb, Result, Ok, Err}
 use Rattle.std.proofs.Math.Option.{Option, none, some}
 use Rattle.std.proofs.lemmas.List.Edits.{sets}
 use Rattle.rules.specs.Shape.{Shape, entry_limit, staging_size}
@@ -10,6 +10,8 @@ use Rattle.rules.specs.Answer.{Answer, refused}
 use Rattle.rules.specs.Plan.{Call, Plan, plan}
 use Rattle.layout.specs.Meaning.{Shaped}
 use Rattle.stage.specs.View.{Staged, entries_of, seen}
+use Rattle.refusals.specs.declared.Refusal.{Refusal}
+use Rattle.refusals.specs.Number.{number_of}
 use Rattle.answers.specs.declared.Staged.{Staged as StagedBy}
 use Rattle.answers.specs.Meaning.{answer_of}
 
@@ -26,8 +28,10 @@ pub record Left : Type 0 where
   pub staging : List ℕ
   pub count : ℕ
 
-abbrev pub left_of : StagedBy → List ℕ → Left
-left_of r staging = record { answer = answer_of r.answer; staging = staging; count = r.count }
+-- What a call on n entries leaves: a call that is refused, as many entries as before.
+abbrev pub left_of : ℕ → Result StagedBy Refusal → List ℕ → Left
+left_of n (Ok r) staging = record { answer = answer_of r.answer; staging = staging; count = r.count }
+left_of n (Err r) staging = record { answer = refused (number_of r); staging = staging; count = n }
 
 -- 27 more than 127 distinct words touched; else the entries es are stored into staging memory, and the answer is a.
 unfoldable pub conclude_staged : List ℕ → ℕ → Option ℕ → Answer → List Store → Left

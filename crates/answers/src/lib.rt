@@ -6,8 +6,11 @@ ghost use Rattle.std.specs.Prelude.{◌≡◌};
 ghost use Rattle.rules.specs.Answer.{is_refused};
 ghost use Rattle.answers.specs.Meaning.{answer_of, kind_of, value_of};
 
-// 01 numbers the steps of a commit or of a recovery from 1.
-#[derive(Clone, Copy)]
+use refusals::Refusal;
+
+// 01 numbers the steps of a commit or of a recovery from 1. One enum, a refusal among its cases: 01's answers; the record is handed back with each,
+// so that a Result would need it in both arms.
+#[derive(Clone, Copy, Debug, PartialEq, Eq)]
 pub enum Answer {
     Address(usize),
     Taken,
@@ -15,10 +18,10 @@ pub enum Answer {
     Stored(usize),
     Barrier(usize),
     Done(usize),
-    Refused(u8),
+    Refused(Refusal),
 }
 
-// The kinds, as include/pool.h numbers them.
+// The kinds, as include/pool.h numbers them. They, `kind` and `value` are for C alone: a kind and a value.
 impl Answer {
     // The value is the refusal's number.
     pub const REFUSED: usize = 0;
@@ -52,10 +55,11 @@ pub fn kind(answer: Answer) -> usize
 }
 
 // Whether an answer is a refusal.
+#[tactic(auto, using(crate::proofs::AnswerKinds::refused_only), unfolding(rules::specs::Answer::is_refused))]
 pub fn is_refused(answer: Answer) -> bool
     ensures { result ≡ is_refused (answer_of answer) }
 {
-    kind(answer) == Answer::REFUSED
+    matches!(answer, Answer::Refused(_))
 }
 
 // The refusal, the address or the number of the step; 0 where there is none.
@@ -63,7 +67,7 @@ pub fn value(answer: Answer) -> usize
     ensures { result ≡ value_of (answer_of answer) }
 {
     match answer {
-        Answer::Refused(n) => n as usize,
+        Answer::Refused(r) => usize::from(r.number()),
         Answer::Address(a) => a,
         Answer::Taken => 0,
         Answer::Started => 0,
@@ -73,8 +77,8 @@ pub fn value(answer: Answer) -> usize
     }
 }
 
-// The answer, and the number of entries then.
-#[derive(Clone, Copy)]
+// The answer of a call that is carried out, and the number of entries then.
+#[derive(Clone, Copy, Debug, PartialEq, Eq)]
 pub struct Staged {
     pub answer: Answer,
     pub count: usize,

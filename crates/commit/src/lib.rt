@@ -2,38 +2,29 @@
 // the next barrier.
 #![tactic(auto)]
 
-ghost use Rattle.std.specs.Prelude.{◌≡◌, not, ◌&&◌, ◌+◌, ◌<◌, eqb};
+ghost use Rattle.std.specs.Prelude.{◌≡◌, IfOk};
 ghost use Rattle.std.proofs.Math.Option.{none};
-ghost use Rattle.rules.specs.Header.{shape_in};
 ghost use Rattle.rules.specs.Test.{first};
-ghost use Rattle.rules.specs.Seals.{unsealed};
-ghost use Rattle.rules.specs.Staging.{commit_length};
+ghost use Rattle.rules.specs.Staging.{committing};
 ghost use Rattle.rules.specs.Calls.{record_tests};
-ghost use Rattle.powercut.specs.Commit.{commit_on, commit_step, place_in};
-ghost use Rattle.powercut.specs.Advance.{commit_barrier, commit_made};
-ghost use Rattle.layout.specs.Meaning.{InRange, opened, Shaped, shape_of};
-ghost use Rattle.layout.specs.declared.Opened.TheVariants.{Good};
-ghost use Rattle.actions.specs.Actions.{Ready};
+ghost use Rattle.powercut.specs.Commit.{commit_on, commit_step};
+ghost use Rattle.refusals.specs.Number.{refusal_in};
+ghost use Rattle.layout.specs.Meaning.{good, opened, shape_of};
 ghost use Rattle.record.specs.Meaning.{given, phase_of};
-ghost use Rattle.commit.specs.Stepped.{after_of, made_of, started_with, stepped_to, turn_of, turn_tests};
+ghost use Rattle.commit.specs.Stepped.{after_of, started_with, stepped_to, turn_tests};
 
 use actions::Action;
 use answers::Answer;
-use layout::Shape;
+use layout::{Pool, Shape};
 use record::{Phase, Record};
+use refusals::Refusal;
 
-// What a start or a step answers, and the record then.
+// What a start or a step answers, and the record then. One of four such structs, and no generic one: `txn`, `transaction`, `recovery` and `count` name
+// what each hands back.
 #[derive(Clone, Copy)]
 pub struct Stepped {
     pub answer: Answer,
     pub txn: Record,
-}
-
-// Where a commit goes on: from step k + 1, or refused.
-#[derive(Clone, Copy)]
-enum Turn {
-    Refused(u8),
-    From(usize),
 }
 
 // The start of a commit: done at once where there are no entries.
@@ -52,17 +43,6 @@ pub fn start(txn: Record) -> Stepped
     }
 }
 
-// Whether this is the first step and a seal is not zero.
-fn sealed(s: Shape, pool: &[u8], k: usize) -> bool
-    requires { Shaped pool.now (shape_of s) }
-    ensures { result ≡ (eqb k 0 && not (unsealed (shape_of s) pool.now)) }
-{
-    if k == 0 {
-        return !pool_log::seals_zero(s, pool);
-    }
-    false
-}
-
 // What step k of n, from 1, answers, and the record then: done with the last.
 fn told(txn: Record, action: Action, k: usize, n: usize) -> Stepped
     ensures { result ≡ stepped_to txn action k n }
@@ -73,83 +53,56 @@ fn told(txn: Record, action: Action, k: usize, n: usize) -> Stepped
             txn: txn.in_phase(Phase::Closed),
         };
     }
-    let next = txn.in_phase(Phase::Committing(k));
-    match action {
-        Action::Store { at: _, val: _ } => Stepped {
-            answer: Answer::Stored(k),
-            txn: next,
-        },
-        Action::Barrier => Stepped {
-            answer: Answer::Barrier(k),
-            txn: next,
-        },
+    Stepped {
+        answer: action.answer(k),
+        txn: txn.in_phase(Phase::Committing(k)),
     }
 }
 
-// Makes step k + 1 of the commit of the entries in `staging`.
-fn make(s: Shape, pool: &mut [u8], staging: &[u8], txn: Record, k: usize) -> Stepped
-    requires { InRange (shape_of s) × Ready (shape_of s) pool.old staging.now 0 txn.count 0 × (k < commit_length txn.count) }
-    ensures { after_of result pool.new staging.now ≡ made_of (shape_of s) (given pool.old staging.now txn) k }
+// From which step, less one, the commit in this phase goes on, or the first of refusals 29, 21.
+fn judge(pool: &Pool, phase: Phase) -> Result<usize, Refusal>
+    ensures refusal { refusal_in result ≡ first (turn_tests (shape_of pool.now.shape) pool.now.bytes.now (phase_of phase)) }
+    ensures place { IfOk result (λ k. phase_of phase ≡ committing k) }
 {
-    let n = txn.count;
-    let action = actions::commit_action(s, pool, staging, n, k);
+    let Phase::Committing(k) = phase else {
+        return Err(Refusal::Phase);
+    };
+    if k == 0 && !pool_log::seals_zero(pool) {
+        return Err(Refusal::Sealed);
+    }
+    Ok(k)
+}
+
+// Makes the next step of a commit whose record was judged, or the first of refusals 29, 21, which changes nothing. The pool is stored into, so its
+// shape goes beside it, and that it opens is a clause.
+pub fn step(s: Shape, pool: &mut [u8], staging: &[u8], txn: Record) -> Result<Stepped, Refusal>
+    requires { (opened pool.old ≡ good (shape_of s)) × (first (record_tests (given pool.old staging.now txn)) ≡ none) }
+    ensures { after_of txn result pool.new staging.now ≡ commit_step (given pool.old staging.now txn) }
+{
+    let k = judge(
+        &Pool {
+            bytes: pool,
+            shape: s,
+        },
+        txn.phase,
+    )?;
+    let action = actions::commit_action(s, pool, staging, txn.count, k);
     actions::apply(pool, action);
-    told(txn, action, k + 1, record::steps(n))
+    Ok(told(txn, action, k + 1, record::steps(txn.count)))
 }
 
-// Makes the steps of the commit of the entries in `staging` from step k + 1 on, up to the next barrier.
-fn make_part(s: Shape, pool: &mut [u8], staging: &[u8], txn: Record, k: usize) -> Stepped
-    requires { InRange (shape_of s) × Ready (shape_of s) pool.old staging.now 0 txn.count 0 × (k < commit_length txn.count) × (shape_in pool.old ≡ shape_of s) }
-    ensures { after_of result pool.new staging.now ≡ commit_made (given pool.old staging.now txn) k (commit_barrier txn.count k) }
+// The same with all steps up to and with the next barrier. Judged as a step is: a closure for what is made would be longer than these lines.
+pub fn advance(s: Shape, pool: &mut [u8], staging: &[u8], txn: Record) -> Result<Stepped, Refusal>
+    requires { (opened pool.old ≡ good (shape_of s)) × (first (record_tests (given pool.old staging.now txn)) ≡ none) }
+    ensures { after_of txn result pool.new staging.now ≡ commit_on (given pool.old staging.now txn) }
 {
-    let n = txn.count;
-    let made = actions::parts::commit_part(s, pool, staging, n, k);
-    told(txn, Action::Barrier, made, record::steps(n))
-}
-
-// Where the commit in this phase goes on, or the first of refusals 29, 21.
-fn judge(s: Shape, pool: &[u8], phase: Phase) -> Turn
-    requires { Shaped pool.now (shape_of s) }
-    ensures { result ≡ turn_of (first (turn_tests (shape_of s) pool.now (phase_of phase))) (place_in (phase_of phase)) }
-{
-    match phase {
-        Phase::Open => Turn::Refused(29),
-        Phase::Closed => Turn::Refused(29),
-        Phase::Committing(k) => {
-            if sealed(s, pool, k) {
-                return Turn::Refused(21);
-            }
-            Turn::From(k)
-        }
-    }
-}
-
-// Makes the next step of a commit whose record was judged, or the first of refusals 29, 21.
-pub fn step(s: Shape, pool: &mut [u8], staging: &[u8], txn: Record) -> Stepped
-    requires { (opened pool.old ≡ Good s) × (first (record_tests (given pool.old staging.now txn)) ≡ none) }
-    ensures { after_of result pool.new staging.now ≡ commit_step (given pool.old staging.now txn) }
-{
-    let phase = txn.phase;
-    match judge(s, pool, phase) {
-        Turn::Refused(n) => Stepped {
-            answer: Answer::Refused(n),
-            txn,
+    let k = judge(
+        &Pool {
+            bytes: pool,
+            shape: s,
         },
-        Turn::From(k) => make(s, pool, staging, txn, k),
-    }
-}
-
-// The same with all steps up to and with the next barrier.
-pub fn advance(s: Shape, pool: &mut [u8], staging: &[u8], txn: Record) -> Stepped
-    requires { (opened pool.old ≡ Good s) × (first (record_tests (given pool.old staging.now txn)) ≡ none) }
-    ensures { after_of result pool.new staging.now ≡ commit_on (given pool.old staging.now txn) }
-{
-    let phase = txn.phase;
-    match judge(s, pool, phase) {
-        Turn::Refused(n) => Stepped {
-            answer: Answer::Refused(n),
-            txn,
-        },
-        Turn::From(k) => make_part(s, pool, staging, txn, k),
-    }
+        txn.phase,
+    )?;
+    let made = actions::parts::commit_part(s, pool, staging, txn.count, k);
+    Ok(told(txn, Action::Barrier, made, record::steps(txn.count)))
 }

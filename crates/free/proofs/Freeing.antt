@@ -1,17 +1,18 @@
 -- The ways out of free. Assumes nothing.
-use Prim.Native.Nat.{ℕ, ◌+◌, ◌*◌, ◌/◌, ◌%◌, ◌^◌, ◌≤◌, ◌<◌}
-use mathlib.Core.Path.{◌≡◌, sym, ap, ◌∙◌}
-use mathlib.Core.Bool.{Bool, true}
-use mathlib.Core.Option.{none}
+use Prim.Native.Nat.{ℕ, ◌+◌, ◌*◌, ◌/◌, ◌%◌, ◌≤◌, ◌<◌}
+use mathlib.Core.Path.{◌≡◌, refl, sym, ap, ◌∙◌}
+use mathlib.Core.Bool.{true, false}
+use mathlib.Core.Option.{Option, none, some}
 use mathlib.Core.List.{List, ◌++◌}
 use native.Mathlib.Omega.{arith}
 use lib.ListN.{length}
+use Rattle.std.specs.Prelude.{Option as Maybe, Some, None, IsSome}
 use Rattle.rules.specs.Words.{Bytes, digits}
-use Rattle.rules.specs.Shape.{entry_limit, staging_size, zone_cells}
+use Rattle.rules.specs.Shape.{Shape as PoolShape, entry_limit, pool_size, staging_size, zone_at, zone_cells}
 use Rattle.rules.specs.Test.{first}
-use Rattle.rules.specs.Runs.{free_head}
+use Rattle.rules.specs.Runs.{Walk, free_head}
 use Rattle.rules.specs.Search.{Place, joined, run_at}
-use Rattle.rules.specs.Zones.{object_tests, run_there}
+use Rattle.rules.specs.Zones.{object_tests, run_there, walk_in, zone_data}
 use Rattle.rules.specs.Staging.{touch_words}
 use Rattle.rules.specs.Answer.{refused, taken}
 use Rattle.rules.specs.Plan.{joined_at, plan, release, touch_joined}
@@ -20,20 +21,23 @@ use Rattle.rules.proofs.Calls.{Named as NamedRun, object-named}
 use Rattle.layout.specs.declared.Shape.{Shape}
 use Rattle.layout.specs.Meaning.{shape_of}
 use Rattle.layout.proofs.Range.{shape-good, size-bounds}
-use Rattle.stage.specs.View.{entries_of, seen}
+use Rattle.stage.specs.View.{entries_of, part, seen}
+use Rattle.stage.specs.Seen.{seen_by}
+use Rattle.stage.specs.declared.View.{View}
 use Rattle.stage.specs.Touched.{TouchedWords, missing}
 use Rattle.stage.proofs.Entries.{length-entries}
 use Rattle.stage.proofs.Touched.{length-words}
 use Rattle.heads.specs.HeadWords.{head_of}
-use Rattle.runs.specs.Rest.{Zoned, walk_of}
-use Rattle.runs.specs.Spotted.{Joined, Spotted}
-use Rattle.objects.specs.declared.Named.{Named}
-use Rattle.objects.specs.declared.Named.TheVariants.{Object, Refused}
-use Rattle.zones.specs.Found.{NamedAt, NamesAt, SpotAt, ZoneIs}
-use Rattle.zones.proofs.Shaped.{address-cell, address-zone, cells-some, zone-inside}
-use Rattle.zones.proofs.Searching.{walk-in}
-use Rattle.zones.proofs.NamedAt.{spot-located}
-use Rattle.answers.specs.Planned.{Judged, Left, planned, stage_entries}
+use Rattle.runs.specs.Rest.{walk_of}
+use Rattle.runs.specs.Spotted.{Joined, Located, Stands}
+use Rattle.runs.specs.declared.Run.{Run}
+use Rattle.runs.specs.declared.Spot.{Spot}
+use Rattle.runs.specs.declared.Zone.{Zone}
+use Rattle.zones.specs.Found.{SpotAt, ZoneIs}
+use Rattle.zones.proofs.Shaped.{address-zone, cells-some}
+use Rattle.free.specs.declared.FreeRun.{FreeRun}
+use Rattle.free.specs.Freed.{Freed}
+use Rattle.answers.specs.Planned.{Left, planned, stage_entries}
 use Rattle.answers.proofs.Planned.{planned-passed, planned-refused, stage-many, stage-stored}
 
 -- ---- the head of the joined run
@@ -53,70 +57,87 @@ module _ (st : List ℕ) (n at cells : ℕ) {r : ℕ} (e : r ≡ missing 2 at (e
       let c : m ≡ n + r = sym (length-entries st' m) ∙ ap length q ∙ words in
       stage-stored st n taken (touch_words 2 at (free_head cells) (entries_of st n)) b (rw t.grown.long (omega arith)) (omega arith) t.grown q
 
--- ---- the object named
+-- ---- the object, found at its cell
 
--- what is known of an object that is named, once its zone is: N cells a zone, and the zone's place and cells
-pub record Known (s : Shape) (p st : List ℕ) (n a N from cells : ℕ) : Type 0 where
-  pub judged : Judged (shape_of s) p st n
-  pub cells_is : N ≡ zone_cells (shape_of s)
-  pub zone-is : ZoneIs (shape_of s) (a / N) from cells
-  pub passed : first (object_tests (shape_of s) (seen p st n) a) ≡ none
-  pub named : NamedRun (shape_of s) (seen p st n) a
-  pub zoned : Zoned p from cells
+true-or-false : true ≡ false → ⊥
+true-or-false e = let y : ◌≡◌ {A = ℕ} 0 1 = cc in omega arith
 
-module _ (s : Shape) {p st : List ℕ} {n : ℕ} (j : Judged (shape_of s) p st n) (a : ℕ) (r : Named) (e : NamesAt (shape_of s) (seen p st n) a r) where
-  pub free-refused : {k : ℕ} → r ≡ Refused k → record { answer = refused k; staging = st; count = n } ≡ planned (shape_of s) p st n (release a)
+none-or-some : {A : Type 0} {x : A} → ◌≡◌ {A = Option A} none (some x) → ⊥
+none-or-some e = let y : ◌≡◌ {A = ℕ} 0 1 = cc in omega arith
+
+some-found : {A : Type 0} (o : Maybe A) → (o ≡ None → ⊥) → IsSome o
+some-found None h = absurd (h refl)
+some-found (Some x) h = refl
+
+walk-same : (s : PoolShape) (v : List ℕ) (z : ℕ) → walk_in s v z ≡ walk_of v (zone_at s z) (zone_cells s)
+unfolding walk_in zone_data walk_of part
+walk-same s v z = refl
+
+module _ (s : Shape) (v : List ℕ) (a : ℕ) {o : Maybe Spot} (passed : first (object_tests (shape_of s) v a) ≡ none) (p : SpotAt (shape_of s) v a o) where
+  named : NamedRun (shape_of s) v a
+  named = object-named (shape_of s) v a (first-passed (object_tests (shape_of s) v a) passed)
+
+  abbrev from : ℕ
+  from = zone_at (shape_of s) (a / zone_cells (shape_of s))
+
+  abbrev cells : ℕ
+  cells = zone_cells (shape_of s)
+
+  located : Located v from cells (a % cells) o
+  located = p.located named.below
+
+  -- its zone is whole, and a run begins there
+  pub spot-some : IsSome o
+  spot-some = some-found o (λ e. true-or-false (sym named.whole ∙ ap (λ (w : Walk). w.whole) (walk-same (shape_of s) v (a / cells)) ∙ located.broken e))
+
+  module _ {w : Spot} (e : o ≡ Some w) where
+    found : run_at (a % cells) 0 (walk_of v from cells).runs ≡ none → ⊥
+    unfolding run_there
+    found h = none-or-some (sym h ∙ ap (λ (x : Walk). run_at (a % cells) 0 x.runs) (sym (walk-same (shape_of s) v (a / cells))) ∙ named.found)
+
+    pub run-some : IsSome w.run
+    run-some = some-found w.run (λ f. found ((located.spotted e).absent f))
+
+    pub run-stands : {r : Run} → w.run ≡ Some r → Stands v from cells (a % cells) w.prior r.cells r.free
+    run-stands f = (located.spotted e).present f
+
+-- ---- in its zone
+
+pub free-some : (s : Shape) {n : ℕ} → n ≡ zone_cells (shape_of s) → 0 < n
+free-some s f = omega (arith, cells-some s)
+
+module _ (s : Shape) (v : View) (h : length v.pool.now ≡ pool_size (shape_of s)) (a : ℕ) (passed : first (object_tests (shape_of s) (seen_by v) a) ≡ none) {n : ℕ} (c : n ≡ zone_cells (shape_of s)) where
+  pub free-zone : a / n < s.zones
+  free-zone = address-zone s c (rw c (object-named (shape_of s) (seen_by v) a (first-passed (object_tests (shape_of s) (seen_by v) a) passed)).below)
+
+  module _ {z : Zone} (i : ZoneIs v (shape_of s) (a / n) z) where
+    pub free-stands : {p : ℕ} (r : Run) → Stands (seen_by v) (zone_at (shape_of s) (a / zone_cells (shape_of s))) (zone_cells (shape_of s)) (a % zone_cells (shape_of s)) p r.cells r.free
+        → Stands (seen_by z.view) z.from z.cells (a % n) p r.cells r.free
+    free-stands r d = rw (i.view_is, i.from_is, i.cells_is, c) d
+
+    pub free-freed : {j : Place} → Joined (seen_by z.view) z.from z.cells (a % n) j.cell j.count → Freed (shape_of s) (seen_by v) a (record { at = z.from + 64 * j.cell; cells = j.count })
+    unfolding joined_at
+    free-freed {j} d' =
+        let d : Joined (seen_by v) (zone_at (shape_of s) (a / zone_cells (shape_of s))) (zone_cells (shape_of s)) (a % zone_cells (shape_of s)) j.cell j.count = rw (i.view_is, i.from_is, i.cells_is, c) at d' in
+        let w : joined (a % zone_cells (shape_of s)) 0 0 (walk_of (seen_by v) (zone_at (shape_of s) (a / zone_cells (shape_of s))) (zone_cells (shape_of s))).runs ≡ joined_at (shape_of s) (seen_by v) a =
+        ap (λ (x : Walk). joined (a % zone_cells (shape_of s)) 0 0 x.runs) (sym (walk-same (shape_of s) (seen_by v) (a / zone_cells (shape_of s)))) in
+        let y = z.zoned.inside in
+        let q : length z.view.pool.now ≡ length v.pool.now = ap (λ (x : View). length x.pool.now) i.view_is in
+        record {
+          passed = passed;
+          at-is = rw (i.from_is, c) (ap (λ (x : ℕ). zone_at (shape_of s) (a / zone_cells (shape_of s)) + 64 * x) (d.cell-is ∙ ap (λ (x : Place). x.cell) w));
+          cells_is = d.count-is ∙ ap (λ (x : Place). x.count) w;
+          low = omega (arith, d'.within, h, (size-bounds s).1);
+          short = omega (arith, d.within, (shape-good s).runs);
+        }
+
+-- ---- what free leaves
+
+module _ (s : Shape) (p st : List ℕ) (n a : ℕ) where
+  pub free-refused : {k : ℕ} → first (object_tests (shape_of s) (seen p st n) a) ≡ some k → record { answer = refused k; staging = st; count = n } ≡ planned (shape_of s) p st n (release a)
   unfolding plan
-  free-refused {k} q = planned-refused (shape_of s) p st n (release a) k (rw q at e)
+  free-refused {k} e = planned-refused (shape_of s) p st n (release a) k e
 
-  module _ {c m t : ℕ} (q : r ≡ Object c m t) where
-    passed : first (object_tests (shape_of s) (seen p st n) a) ≡ none
-    passed = let e' : NamedAt (shape_of s) (seen p st n) a c m t = rw q at e in e'.passed
-
-    named : NamedRun (shape_of s) (seen p st n) a
-    named = object-named (shape_of s) (seen p st n) a (first-passed (object_tests (shape_of s) (seen p st n) a) passed)
-
-    module _ {N : ℕ} (f : N ≡ zone_cells (shape_of s)) where
-      pub free-zone : a / N < s.zones
-      free-zone = address-zone s j.shaped.range f (rw f named.below)
-
-      pub free-known : {from cells : ℕ} → ZoneIs (shape_of s) (a / N) from cells → Known s p st n a N from cells
-      free-known z = record { judged = j; cells_is = f; zone-is = z; passed = passed; named = named; zoned = zone-inside s j.shaped.range j.shaped.size free-zone z }
-
-pub free-some : (s : Shape) {p st : List ℕ} {n N : ℕ} → Judged (shape_of s) p st n → N ≡ zone_cells (shape_of s) → 0 < N
-free-some s j f = omega (arith, cells-some s j.shaped.range)
-
--- ---- and its zone
-
-module _ {s : Shape} {p st : List ℕ} {n a N from cells : ℕ} (k : Known s p st n a N from cells) where
-  pub free-cell : a % N < cells
-  free-cell = address-cell s k.judged.shaped.range a k.cells_is k.zone-is.cells_is
-
-  pub free-whole : (walk_of (seen p st n) from cells).whole ≡ true
-  free-whole = rw (← (walk-in (seen p st n) k.zone-is), k.cells_is) k.named.whole
-
-  pub free-spotted : {w : Bool} {b m : ℕ} {g : Bool} → SpotAt (shape_of s) (seen p st n) a w b m g → Spotted (seen p st n) from cells (a % N) b m g
-  free-spotted x =
-      let d = spot-located (shape_of s) (seen p st n) a k.cells_is k.zone-is (rw k.cells_is k.named.below) x in
-      d.spotted (d.whole_is ∙ free-whole)
-
-  pub free-there : run_at (a % N) 0 (walk_of (seen p st n) from cells).runs ≡ none → ⊥
-  unfolding run_there
-  free-there h =
-      let g : run_there (shape_of s) (seen p st n) a ≡ none = rw (← k.cells_is, walk-in (seen p st n) k.zone-is) h in
-      let f = k.named.found in
-      let y : ◌≡◌ {A = ℕ} 0 1 = cc in omega arith
-
-  module _ {cell count : ℕ} (d : Joined (seen p st n) from cells (a % N) cell count) where
-    pub free-low : from + 64 * cell + 16 < 2 ^ 32
-    free-low = let y = (size-bounds s k.judged.shaped.range).1 in omega (arith, k.zoned.inside, d.within, k.judged.shaped.size)
-
-    pub free-small : count < 65536
-    free-small = let g = (shape-good s k.judged.shaped.range).runs in omega (arith, d.within, k.zone-is.cells_is)
-
-    pub free-taken : {x : Left} → x ≡ stage_entries st n taken (touch_words 2 (from + 64 * cell) (free_head count) (entries_of st n)) → x ≡ planned (shape_of s) p st n (release a)
-    unfolding plan touch_joined joined_at
-    free-taken h =
-        let w = walk-in (seen p st n) k.zone-is in
-        let x : joined (a % N) 0 0 (walk_of (seen p st n) from cells).runs ≡ joined_at (shape_of s) (seen p st n) a = rw (← w, k.cells_is) in
-        h ∙ rw (d.cell-is ∙ ap (λ (y : Place). y.cell) x, d.count-is ∙ ap (λ (y : Place). y.count) x, k.zone-is.from_is, k.cells_is) (planned-passed (shape_of s) p st n (release a) k.passed)
+  pub free-taken : {r : FreeRun} {x : Left} → Freed (shape_of s) (seen p st n) a r → x ≡ stage_entries st n taken (touch_words 2 r.at (free_head r.cells) (entries_of st n)) → x ≡ planned (shape_of s) p st n (release a)
+  unfolding plan touch_joined
+  free-taken f h = h ∙ rw (f.at-is, f.cells_is) (planned-passed (shape_of s) p st n (release a) f.passed)

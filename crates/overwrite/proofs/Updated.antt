@@ -2,10 +2,13 @@
 use Prim.Native.Nat.{ℕ, zero, suc, ◌+◌, ◌-◌, ◌/◌, ◌*◌, ◌%◌, ◌≤◌}
 use mathlib.Core.Path.{◌≡◌, refl, sym, ap, ◌∙◌}
 use mathlib.Core.List.{List, [], ◌∷◌}
-use native.Mathlib.Nat.{add-sub_cancel_left, add-zero, sub-zero}
+use native.Mathlib.Nat.{add-sub_cancel_left, add-zero, min-le_right, sub-zero}
 use native.Mathlib.Omega.{arith}
 use lib.ListN.{length, take, drop, drop_of_length-le, length-drop}
-use lib.Seq.{drop-drop, take-length}
+use lib.Seq.{drop-drop, sets, take-length}
+use Rattle.std.specs.Prelude.{min}
+use Rattle.std.proofs.lemmas.List.{take_min}
+use Rattle.rules.proofs.Parts.{sets-cut}
 use Rattle.rules.specs.Words.{digits}
 use Rattle.rules.specs.Check.{updated}
 use Rattle.sums.specs.Fed.{updated_range}
@@ -16,6 +19,10 @@ use Rattle.rules.proofs.Sets.{drop-take}
 pub rest_all : (k : ℕ) (l : List ℕ) → take (length l - k) (drop k l) ≡ drop k l
 rest_all k l = rw (← (length-drop k l)) (take-length (drop k l))
 
+-- as many of the bytes vs are laid over l from k on as both go
+pub sets-both : {m : ℕ} (l : List ℕ) (k : ℕ) (vs : List ℕ) → m ≡ min (length l - k) (length vs) → sets l k (take m vs) ≡ sets l k vs
+sets-both {m} l k vs h = rw (h, take_min) (sets-cut (length l - k) l k vs (omega arith))
+
 -- ---- the shorter of the two lists decides
 
 updated-nil : (c n : ℕ) (us : List ℕ) → updated_range c n us [] ≡ c
@@ -23,26 +30,24 @@ unfolding updated_range
 updated-nil c n [] = refl
 updated-nil c n (u ∷ us) = refl
 
-pub updated-old : (c n : ℕ) (us vs : List ℕ) → updated_range c n us (take (length us) vs) ≡ updated_range c n us vs
+updated-both : (m c n : ℕ) (us vs : List ℕ) → min (length us) (length vs) ≤ m → updated_range c n (take m us) (take m vs) ≡ updated_range c n us vs
 unfolding updated_range
-updated-old c n [] vs = refl
-updated-old c n (u ∷ us) [] = refl
-updated-old c n (u ∷ us) (v ∷ vs) = updated-old (updated c n u v) (n - 1) us vs
+updated-both zero c n [] vs h = refl
+updated-both zero c n (u ∷ us) [] h = refl
+updated-both zero c n (u ∷ us) (v ∷ vs) h = absurd (omega arith)
+updated-both (suc m) c n [] vs h = refl
+updated-both (suc m) c n (u ∷ us) [] h = refl
+updated-both (suc m) c n (u ∷ us) (v ∷ vs) h = updated-both m (updated c n u v) (n - 1) us vs (omega arith)
 
-pub updated-new : (c n : ℕ) (us vs : List ℕ) → updated_range c n (take (length vs) us) vs ≡ updated_range c n us vs
-unfolding updated_range
-updated-new c n [] [] = refl
-updated-new c n [] (v ∷ vs) = refl
-updated-new c n (u ∷ us) [] = refl
-updated-new c n (u ∷ us) (v ∷ vs) = updated-new (updated c n u v) (n - 1) us vs
+updated-new : (c n : ℕ) (us vs : List ℕ) → updated_range c n (take (length vs) us) vs ≡ updated_range c n us vs
+updated-new c n us vs =
+    ap (updated_range c n (take (length vs) us)) (sym (take-length vs)) ∙ updated-both (length vs) c n us vs (min-le_right (length us) (length vs))
 
--- all of the bytes from k on become the first of vs; or the first of them become vs
-pub check-old : {r : ℕ} (c n k : ℕ) (us vs : List ℕ) → r ≡ updated_range c n (take (length us - k) (drop k us)) (take (length us - k) vs) → r ≡ updated_range c n (drop k us) vs
-check-old c n k us vs e =
-    e ∙ rw (rest_all k us, ← (length-drop k us)) (updated-old c n (drop k us) vs)
-
-pub check-new : {r : ℕ} (c n k : ℕ) (us vs : List ℕ) → r ≡ updated_range c n (take (k + length vs - k) (drop k us)) vs → r ≡ updated_range c n (drop k us) vs
-check-new c n k us vs e = e ∙ rw (add-sub_cancel_left k (length vs)) (updated-new c n (drop k us) vs)
+-- as many of the bytes from k on become the first of vs as both go
+pub check-both : {r m : ℕ} (c n k : ℕ) (us vs : List ℕ) → m ≡ min (length us - k) (length vs) → r ≡ updated_range c n (take (k + m - k) (drop k us)) (take m vs)
+    → r ≡ updated_range c n (drop k us) vs
+check-both {m = m} c n k us vs h e =
+    e ∙ rw (add-sub_cancel_left k m) (updated-both m c n (drop k us) vs (rw (length-drop k us) (omega arith)))
 
 -- the first k bytes, then the others
 updated-split : (k c n : ℕ) (us vs : List ℕ) → updated_range c n us vs ≡ updated_range (updated_range c n (take k us) vs) (n - k) (drop k us) (drop k vs)

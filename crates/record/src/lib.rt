@@ -6,14 +6,15 @@ ghost use Rattle.rules.specs.Shape.{entry_limit, staging_size};
 ghost use Rattle.rules.specs.Test.{first};
 ghost use Rattle.rules.specs.Staging.{commit_length, fresh, impossible, is_live, past_commit, unusable};
 ghost use Rattle.rules.specs.Calls.{live_tests, record_tests};
-ghost use Rattle.layout.specs.declared.Opened.TheVariants.{Good};
-ghost use Rattle.layout.specs.Meaning.{InRange, opened, shape_of};
-ghost use Rattle.record.specs.Meaning.{given, in_phase, phase_of, record_of, verdict};
+ghost use Rattle.layout.specs.Meaning.{good, opened, shape_of};
+ghost use Rattle.refusals.specs.Number.{refusal_in};
+ghost use Rattle.record.specs.Meaning.{given, in_phase, phase_of, record_of};
 
-use layout::Shape;
+use layout::{Pool, Shape};
+use refusals::Refusal;
 
 // Open; k steps of the commit made; or closed.
-#[derive(Clone, Copy)]
+#[derive(Clone, Copy, Debug, PartialEq, Eq)]
 pub enum Phase {
     Open,
     Committing(usize),
@@ -21,7 +22,7 @@ pub enum Phase {
 }
 
 // The id of the pool that it was begun on, the entries counted, and the phase.
-#[derive(Clone, Copy)]
+#[derive(Clone, Copy, Debug, PartialEq, Eq)]
 pub struct Record {
     pub id: u64,
     pub count: usize,
@@ -55,19 +56,8 @@ impl Record {
     pub fn in_phase(self, phase: Phase) -> Record
         ensures { result ≡ in_phase self phase }
     {
-        Record {
-            id: self.id,
-            count: self.count,
-            phase,
-        }
+        Record { phase, ..self }
     }
-}
-
-// A record judged: good, or the refusal's number.
-#[derive(Clone, Copy)]
-pub enum Verdict {
-    Good,
-    Refused(u8),
 }
 
 // The steps of a commit of `n` entries.
@@ -79,75 +69,62 @@ pub fn steps(n: usize) -> usize
 }
 
 // Whether the place is past the list of the commit's steps.
+#[tactic(auto, unfolding(rules::specs::Staging::past_commit))]
 fn past(txn: Record) -> bool
     requires { txn.count ≤ entry_limit }
     ensures { result ≡ past_commit txn.count (phase_of txn.phase) }
 {
-    let phase = txn.phase;
-    match phase {
+    match txn.phase {
         Phase::Committing(k) => steps(txn.count) <= k,
-        Phase::Open => false,
-        Phase::Closed => false,
+        Phase::Open | Phase::Closed => false,
     }
 }
 
 // Whether the record is possible.
+#[tactic(auto, using(crate::proofs::Judging::impossible_many, crate::proofs::Judging::impossible_past, crate::proofs::Judging::possible_fits))]
 fn possible(s: Shape, staging: &[u8], txn: Record) -> bool
-    requires { InRange (shape_of s) × (staging_size ≤ length staging.now) }
+    requires { staging_size ≤ length staging.now }
     ensures { result ≡ not (impossible (shape_of s) staging.now txn.count (phase_of txn.phase)) }
 {
-    if Shape::ENTRIES < txn.count {
-        return false;
-    }
-    if past(txn) {
-        return false;
-    }
-    pool_log::targets_fit(s, staging, 0, txn.count)
+    txn.count <= Shape::ENTRIES && !past(txn) && pool_log::targets_fit(s, staging, 0, txn.count)
 }
 
-// The record judged on an opened pool of this shape: good, or the first of refusals 9, 10, 11.
-pub fn judge(s: Shape, pool: &[u8], staging: &[u8], txn: Record) -> Verdict
-    requires { opened pool.now ≡ Good s }
-    ensures { result ≡ verdict (first (record_tests (given pool.now staging.now txn))) }
+// The record judged on an opened pool; that it opens is a clause: a `Pool` is asked for its length alone. Good, or the first of refusals 9, 10, 11.
+pub fn judge(pool: &Pool, staging: &[u8], txn: Record) -> Result<(), Refusal>
+    requires { opened pool.now.bytes.now ≡ good (shape_of pool.now.shape) }
+    ensures { refusal_in result ≡ first (record_tests (given pool.now.bytes.now staging.now txn)) }
 {
     if staging.len() < Shape::STAGING {
-        return Verdict::Refused(9);
+        return Err(Refusal::Staging);
     }
-    if !possible(s, staging, txn) {
-        return Verdict::Refused(10);
+    if !possible(pool.shape, staging, txn) {
+        return Err(Refusal::Record);
     }
-    if txn.id == layout::id(pool) {
-        return Verdict::Good;
+    if txn.id != layout::id(pool.bytes) {
+        return Err(Refusal::Pool);
     }
-    Verdict::Refused(11)
+    Ok(())
 }
 
+// Whether the transaction is open.
+#[tactic(auto, using(crate::proofs::Judging::live_else), unfolding(rules::specs::Staging::is_live))]
 fn live(txn: Record) -> bool
     ensures { result ≡ is_live (phase_of txn.phase) }
 {
-    let phase = txn.phase;
-    match phase {
-        Phase::Open => true,
-        Phase::Committing(_) => false,
-        Phase::Closed => false,
-    }
+    matches!(txn.phase, Phase::Open)
 }
 
 // The same for a call that stages words or starts a commit: then 29, 21.
-pub fn ready(s: Shape, pool: &[u8], staging: &[u8], txn: Record) -> Verdict
-    requires { opened pool.now ≡ Good s }
-    ensures { result ≡ verdict (first (record_tests (given pool.now staging.now txn) ++ live_tests (given pool.now staging.now txn))) }
+pub fn ready(pool: &Pool, staging: &[u8], txn: Record) -> Result<(), Refusal>
+    requires { opened pool.now.bytes.now ≡ good (shape_of pool.now.shape) }
+    ensures { refusal_in result ≡ first (record_tests (given pool.now.bytes.now staging.now txn) ++ live_tests (given pool.now.bytes.now staging.now txn)) }
 {
-    match judge(s, pool, staging, txn) {
-        Verdict::Refused(n) => Verdict::Refused(n),
-        Verdict::Good => {
-            if !live(txn) {
-                return Verdict::Refused(29);
-            }
-            if pool_log::seals_zero(s, pool) {
-                return Verdict::Good;
-            }
-            Verdict::Refused(21)
-        }
+    judge(pool, staging, txn)?;
+    if !live(txn) {
+        return Err(Refusal::Phase);
     }
+    if !pool_log::seals_zero(pool) {
+        return Err(Refusal::Sealed);
+    }
+    Ok(())
 }

@@ -2,7 +2,7 @@
 use Prim.Native.Nat.{ℕ, zero, suc, ◌+◌, ◌*◌, ◌/◌, ◌%◌, ◌^◌, ◌≤◌, ◌<◌}
 use mathlib.Core.Path.{◌≡◌, refl, sym, ap, ap₂, subst, ◌∙◌}
 use mathlib.Core.Logic.{◌⊎◌, inl, inr}
-use mathlib.Core.Bool.{Bool, true, false, ◌||◌}
+use mathlib.Core.Bool.{Bool, false, ◌||◌}
 use mathlib.Core.List.{List, [], ◌∷◌}
 use native.Mathlib.Nat.{lt_of_lt_of_le, pow-suc, div_self, div-eq_of_lt}
 use native.Mathlib.Numerals.{add-one}
@@ -12,9 +12,9 @@ use borrow.Author.Tests.{leb-false}
 use lib.Arith.{bin_ind}
 use lib.Count.{ones, ones_in, ones_step, count_trailing_zeros, under}
 use lib.Dec.{leb, ltb}
-use lib.ListN.{length, drop, get_or}
-use lib.Seq.{drop-cons, drop-length}
+use lib.ListN.{get_or}
 use lib.Pow.{shl_exact, pow_mono, pow_pos}
+use Rattle.std.specs.List.{list_any}
 use Rattle.rules.specs.Shape.{Shape}
 use Rattle.rules.specs.Repair.{any_above, any_two, bit}
 use Rattle.rules.proofs.Bool.{or-false}
@@ -94,35 +94,18 @@ above-bits sh [] e k = pow_pos (suc sh.rows)
 above-bits sh (m ∷ ms) e zero = leb-false (2 ^ suc sh.rows) m (or-false (leb (2 ^ suc sh.rows) m) (any_above sh ms) e).0
 above-bits sh (m ∷ ms) e (suc k) = above-bits sh ms (or-false (leb (2 ^ suc sh.rows) m) (any_above sh ms) e).1 k
 
--- ---- a search for a mask with a property
-
-unfoldable pub any_of : (ℕ → Bool) → List ℕ → Bool
-any_of f [] = false
-any_of f (m ∷ ms) = f m || any_of f ms
+-- ---- the tests as the code makes them
 
 -- the first number with a bit above r, as the code shifts to it
 pub mask_end : (r : ℕ) → r ≤ 15 → 1 * 2 ^ (r + 1) % 2 ^ 64 ≡ 2 ^ suc r
 mask_end r h = rw add-one (shl_exact {a = 1} 1 (suc r) 64 (omega arith) (omega arith) ∙ omega arith)
 
-pub above-any : (sh : Shape) (e : ℕ) (ms : List ℕ) → e ≡ 2 ^ suc sh.rows → any_of (leb e) ms ≡ any_above sh ms
-unfolding any_of any_above
+pub above-any : (sh : Shape) (e : ℕ) (ms : List ℕ) → e ≡ 2 ^ suc sh.rows → list_any (leb e) ms ≡ any_above sh ms
+unfolding any_above
 above-any sh e [] h = refl
 above-any sh e (m ∷ ms) h = ap₂ ◌||◌ (ap (λ (x : ℕ). leb x m) h) (above-any sh e ms h)
 
-pub two-any : (ms : List ℕ) → any_of (λ m. ltb 1 (ones m)) ms ≡ any_two ms
-unfolding any_of any_two
+pub two-any : (ms : List ℕ) → list_any (λ m. ltb 1 (ones m)) ms ≡ any_two ms
+unfolding any_two
 two-any [] = refl
 two-any (m ∷ ms) = ap (λ (b : Bool). ltb 1 (ones m) || b) (two-any ms)
-
-module _ (f : ℕ → Bool) (ms : List ℕ) (i : ℕ) (e : any_of f (drop i ms) ≡ any_of f ms) where
-  pub any-pass : i < length ms → f (get_or ms i 0) ≡ false → any_of f (drop (i + 1) ms) ≡ any_of f ms
-  unfolding any_of
-  any-pass h t = rw (← e, add-one i, drop-cons ms i 0 h, t)
-
-  pub any-hit : i < length ms → f (get_or ms i 0) ≡ true → true ≡ any_of f ms
-  unfolding any_of
-  any-hit h t = rw (← e, drop-cons ms i 0 h, t)
-
-  pub any-end : length ms ≡ i → false ≡ any_of f ms
-  unfolding any_of
-  any-end h = rw (← e, ← h, drop-length ms)

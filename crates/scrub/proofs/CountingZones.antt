@@ -10,8 +10,12 @@ use Rattle.rules.specs.Runs.{is_free, is_good}
 use Rattle.rules.specs.Zones.{walk_in}
 use Rattle.rules.specs.Scrub.{broken_zones, count_to, damaged_met, objects_met, wrong_columns}
 use Rattle.rules.proofs.Sums.{count-sum}
+use Rattle.stage.specs.Seen.{Alone}
+use Rattle.stage.specs.declared.View.{View}
+use Rattle.runs.specs.Taken.{walk_by}
+use Rattle.runs.specs.declared.Zone.{Zone}
 use Rattle.zones.specs.Found.{ZoneIs}
-use Rattle.zones.proofs.Searching.{walk-in}
+use Rattle.zones.proofs.Shaped.{walk-alone}
 use Rattle.zones.proofs.Summing.{SummingZones, summing-end, summing_start, summing-step}
 use Rattle.scrub.specs.Counted.{Counted, Tallied}
 
@@ -33,14 +37,14 @@ pub zones-start : (s : PoolShape) (v : List ℕ) → CountingZones s v 0 0 0 0
 unfolding count_to
 zones-start s v = record { within = omega arith; objects = summing_start _ _ s v; damaged = summing_start _ _ s v; broken = refl; few = omega arith }
 
-pub zones-step : {s : PoolShape} {v : List ℕ} {z o d b from n i j k : ℕ} {w : Bool} → CountingZones s v z o d b → z < s.zones → ZoneIs s z from n → n < 65536
-    → Tallied v from n i j w → (k ≡ cond (not w) 1 0) × (k ≤ 1) → CountingZones s v (z + 1) (o + i) (d + j) (b + k)
-zones-step {s} {v} {z} {o} {d} {b} {k = k} c h e l t q =
+pub zones-step : {s : PoolShape} {p : List ℕ} {v : View} {z o d b i j k : ℕ} {r : Zone} {w : Bool} → CountingZones s p z o d b → z < s.zones → Alone p v → ZoneIs v s z r → r.cells < 65536
+    → Tallied (walk_by r) r.cells i j w → (k ≡ cond (not w) 1 0) × (k ≤ 1) → CountingZones s p (z + 1) (o + i) (d + j) (b + k)
+zones-step {s} {p} {v} {z} {o} {d} {b} {k = k} {w = w} c h a e l t q =
     record {
       within = omega arith;
-      objects = summing-step c.objects h e (t.objects ∙ count-sum (λ r. not (is_free r)) _) (omega (arith, t.few));
-      damaged = summing-step c.damaged h e (t.damaged ∙ count-sum (λ r. not (is_good r)) _) (omega (arith, t.fewer));
-      broken = count-more (λ z. not (walk_in s v z).whole) z b k c.broken (rw (walk-in v e, ← t.whole) q.0);
+      objects = summing-step c.objects h (walk-alone a e) (t.objects ∙ count-sum (λ r. not (is_free r)) _) (omega (arith, t.few));
+      damaged = summing-step c.damaged h (walk-alone a e) (t.damaged ∙ count-sum (λ r. not (is_good r)) _) (omega (arith, t.fewer));
+      broken = count-more (λ z. not (walk_in s p z).whole) z b k c.broken (rw (walk-alone a e, ← t.whole) q.0);
       few = omega (arith, c.few, q.1);
     }
 

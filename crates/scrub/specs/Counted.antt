@@ -1,10 +1,9 @@
 -- What scrub counts (01, "Repair and scrub"): in a zone, and in the pool. Assumes nothing.
 use Rattle.std.specs.Prelude.{ℕ, ◌+◌, ◌*◌, ◌≤◌, ◌≡◌, Bool, true, false, not, cond, List, length}
 use Rattle.rules.specs.Shape.{Shape as PoolShape}
-use Rattle.rules.specs.Runs.{head_cells, is_free, is_good, object_ok}
+use Rattle.rules.specs.Runs.{Walk, head_cells, is_free, is_good, object_ok}
 use Rattle.rules.specs.Scrub.{broken_zones, count_runs, damaged_met, objects_met, wrong_columns}
 use Rattle.stage.specs.View.{part}
-use Rattle.runs.specs.Rest.{walk_of}
 use Rattle.objects.specs.Named.{object_run}
 
 -- The head of an object at byte a of v; its cells lie in v.
@@ -16,11 +15,11 @@ pub record ObjectThere (v : List ℕ) (a : ℕ) : Type 0 where
 unfoldable pub damaged_at : List ℕ → ℕ → Bool → Bool
 damaged_at v a free = cond free false (not (is_good (object_run v a (part 16 a v))))
 
--- The runs of a zone that are objects, and damaged objects; and whether the zone is unbroken.
-pub record Tallied (v : List ℕ) (from n o d : ℕ) (w : Bool) : Type 0 where
-  pub objects : o ≡ count_runs (λ r. not (is_free r)) (walk_of v from n).runs
-  pub damaged : d ≡ count_runs (λ r. not (is_good r)) (walk_of v from n).runs
-  pub whole : w ≡ (walk_of v from n).whole
+-- Of the runs of a zone of n cells with the walk w, those that are objects, and damaged objects; and whether the zone is unbroken.
+pub record Tallied (w : Walk) (n o d : ℕ) (b : Bool) : Type 0 where
+  pub objects : o ≡ count_runs (λ r. not (is_free r)) w.runs
+  pub damaged : d ≡ count_runs (λ r. not (is_good r)) w.runs
+  pub whole : b ≡ w.whole
   pub few : o ≤ n
   pub fewer : d ≤ n
 

@@ -1,11 +1,10 @@
 -- The look-up in a zone, one run further on. Assumes nothing.
-use Prim.Native.Nat.{ℕ, zero, suc, ◌+◌, ◌*◌, ◌≤◌, ◌<◌}
+use Prim.Native.Nat.{ℕ, ◌+◌, ◌*◌, ◌≤◌, ◌<◌}
 use mathlib.Core.Path.{◌≡◌, refl, sym, ap, ◌∙◌}
 use mathlib.Core.Bool.{Bool, true, false}
 use mathlib.Core.Option.{Option, none, some, or_else}
 use mathlib.Core.List.{List, [], ◌∷◌}
 use native.Mathlib.Nat.{add_assoc, add-zero}
-use native.Mathlib.Numerals.{add-one}
 use native.Mathlib.Omega.{arith}
 use lib.Dec.{eqb, leb}
 use borrow.Author.Tests.{le-leb, lt-leb}
@@ -13,12 +12,13 @@ use Rattle.rules.specs.Runs.{Run, Walk, cells, free, head_tag, is_free, object}
 use Rattle.rules.specs.Book.{book}
 use Rattle.rules.specs.Tag.{first_from, first_tagged, with_tag}
 use Rattle.rules.proofs.Bool.{split}
-use Rattle.stage.specs.View.{part, seen}
-use Rattle.stage.proofs.View.{seen_none}
-use Rattle.runs.specs.Rest.{Passed, walk_of}
+use Rattle.std.specs.Prelude.{Option as Maybe, Some, None, Result, Ok, Err}
+use Rattle.std.specs.Option.{option_or}
+use Rattle.stage.specs.View.{part}
+use Rattle.runs.specs.Rest.{Passed}
 use Rattle.objects.specs.Named.{object_run}
 use Rattle.objects.proofs.Naming.{passed-object}
-use Rattle.tags.specs.Found.{Scanned, hit_if, slot_of, tagged_at}
+use Rattle.tags.specs.Found.{hit_if, hits_from, slot_of, tagged_at}
 
 -- ---- the first of three
 
@@ -32,35 +32,32 @@ unfolding or_else
 or_assoc none y z = refl
 or_assoc (some a) y z = refl
 
--- ---- the tag at a byte
+-- ---- the hit at a run
 
-pub free-at : (v : List ℕ) (a t : ℕ) {f : Bool} → f ≡ true → false ≡ tagged_at v a f t
+pub free-tagged_at : (v : List ℕ) (a t : ℕ) {f : Bool} → f ≡ true → false ≡ tagged_at v a f t
 unfolding tagged_at
-free-at v a t e = rw e
+free-tagged_at v a t e = rw e
 
-pub object-at : (v st : List ℕ) (a t : ℕ) {f : Bool} {h : List ℕ} {u : ℕ} → f ≡ false → h ≡ part 16 a (seen v st 0) → u ≡ head_tag h → eqb u t ≡ tagged_at v a f t
+pub object-tagged_at : (v : List ℕ) (a t : ℕ) {f : Bool} {h : List ℕ} {u : ℕ} → f ≡ false → h ≡ part 16 a v → u ≡ head_tag h → eqb u t ≡ tagged_at v a f t
 unfolding tagged_at
-object-at v st a t e q k = rw (e, k, q, seen_none v st)
+object-tagged_at v a t e q k = rw (e, k, q)
 
--- ---- the hit that is kept
+pub hit-here : {g : Bool} {a from : ℕ} → from ≤ a → g ≡ true → some a ≡ hit_if g a from
+unfolding hit_if
+hit-here {a = a} {from} l e = rw (e, le-leb from a l)
 
-pub hit-before : (h : ℕ) (x : Option ℕ) → (h ≡ 0 → ⊥) → slot_of h ≡ or_else (slot_of h) x
-unfolding slot_of or_else
-hit-before zero x e = absurd (e refl)
-hit-before (suc h) x e = refl
+pub hit-below : (g : Bool) {a from : ℕ} → a < from → none ≡ hit_if g a from
+unfolding hit_if
+hit-below g {a} {from} l = split g (λ e. rw (e, lt-leb from a l)) (λ e. rw e)
 
-module _ (h : ℕ) (g : Bool) (a from : ℕ) where
-  pub hit-untagged : g ≡ false → slot_of h ≡ or_else (slot_of h) (hit_if g a from)
-  unfolding hit_if
-  hit-untagged e = rw e (sym (or-none (slot_of h)))
+pub hit-untagged : {g : Bool} (a from : ℕ) → g ≡ false → none ≡ hit_if g a from
+unfolding hit_if
+hit-untagged a from e = rw e
 
-  pub hit-below : g ≡ true → a < from → slot_of h ≡ or_else (slot_of h) (hit_if g a from)
-  unfolding hit_if
-  hit-below e l = rw (e, lt-leb from a l) (sym (or-none (slot_of h)))
-
-  pub hit-here : h ≡ 0 → g ≡ true → from ≤ a → slot_of (a + 1) ≡ or_else (slot_of h) (hit_if g a from)
-  unfolding slot_of hit_if or_else
-  hit-here e k l = rw (e, k, le-leb from a l, add-one a)
+pub slot-or : (h x : Maybe ℕ) → slot_of (option_or h x) ≡ or_else (slot_of h) (slot_of x)
+unfolding or_else
+slot-or None x = refl
+slot-or (Some a) x = refl
 
 -- ---- one run
 
@@ -86,26 +83,28 @@ unfolding first_tagged first_from with_tag book is_tagged hit_if or_else
 first_run t from c (free n) rs = refl
 first_run t from c (object n u b g) rs = split (eqb u t) (λ e. rw e (split (leb from c) (λ h. rw h) (λ h. rw h))) (λ e. rw e)
 
--- ---- the loop over a zone's runs: the hit h before the walk w, whose first run has the address a
-
-abbrev pub Scans : Type 0
-Scans = Option ℕ × Bool
-
-abbrev pub scans : ℕ → ℕ → ℕ → ℕ → Walk → Scans
-scans t from h a w = (or_else (slot_of h) (first_tagged t from (book a w.runs)), w.whole)
+-- ---- the loop over a zone's runs
 
 module _ (t from b : ℕ) where
-  pub scans-start : (h : ℕ) (w : Walk) → scans t from h (b + 0) w ≡ scans t from h b w
-  scans-start h w = rw (add-zero b)
+  -- the walk from cell c on, behind the hit h
+  abbrev pub scans : Option ℕ → ℕ → Walk → Result (Option ℕ) ℕ
+  scans h c w = hits_from t from h (b + c) w
 
-  pub scans-step : (h k : ℕ) {v : List ℕ} {start n c : ℕ} {a : Bool} {m : ℕ} {f x : Bool} (p : Passed v start n c a m f) → x ≡ tagged_at v (start + 64 * c) f t
-      → slot_of k ≡ or_else (slot_of h) (hit_if x (b + c) from) → (w : Walk)
-      → scans t from h (b + c) (record { runs = p.that ∷ w.runs; whole = w.whole }) ≡ scans t from k (b + (c + m)) w
-  scans-step h k {c = c} {m = m} p e q w =
+  pub scans-step : (h : Maybe ℕ) {v : List ℕ} {start n c : ℕ} {a : Bool} {m : ℕ} {f : Bool} (p : Passed v start n c a m f) (x : Maybe ℕ) → slot_of x ≡ hit_if (tagged_at v (start + 64 * c) f t) (b + c) from
+      → (w : Walk) → scans (slot_of h) c (record { runs = p.that ∷ w.runs; whole = w.whole }) ≡ scans (slot_of (option_or h x)) (c + m) w
+  unfolding hits_from
+  scans-step h {c = c} {m = m} p x e w =
       let y : first_tagged t from (book (b + c) (p.that ∷ w.runs)) ≡ or_else (hit_if (is_tagged t p.that) (b + c) from) (first_tagged t from (book (b + (c + m)) w.runs)) =
       rw (← (add_assoc b c m), ← p.cells_is) (first_run t from (b + c) p.that w.runs) in
-      rw (y, ← (run-tagged t p), ← e, or_assoc (slot_of h), ← q)
+      rw (y, ← (run-tagged t p), ← e, or_assoc (slot_of h), slot-or h x)
 
-  pub scanned : (a : ℕ) {v : List ℕ} {start n h r : ℕ} {w : Bool} → scans t from r a (record { runs = []; whole = w }) ≡ scans t from h b (walk_of v start n) → Scanned v start n b t from h r w
-  unfolding first_tagged first_from with_tag book
-  scanned a {r = r} e = record { hit = sym (or-none (slot_of r)) ∙ ap (λ (x : Scans). x.0) e; whole = ap (λ (x : Scans). x.1) e }
+  pub scans-start : (h : Option ℕ) (w : Walk) → scans h 0 w ≡ hits_from t from h b w
+  scans-start h w = rw (add-zero b)
+
+  pub scans-broken : (h : Option ℕ) (c : ℕ) {r : Result (Option ℕ) ℕ} → scans h c (record { runs = []; whole = false }) ≡ r → Err 23 ≡ r
+  unfolding hits_from
+  scans-broken h c e = e
+
+  pub scans-end : (h : Option ℕ) (c : ℕ) {r : Result (Option ℕ) ℕ} → scans h c (record { runs = []; whole = true }) ≡ r → Ok h ≡ r
+  unfolding hits_from first_tagged first_from with_tag book
+  scans-end h c e = ap Ok (sym (or-none h)) ∙ e

@@ -9,10 +9,16 @@ use Rattle.rules.specs.Runs.{Run, cells, free, head_cells, head_length, is_free,
 use Rattle.rules.specs.Search.{free_cells}
 use Rattle.rules.specs.Scan.{body_length, one_object, sum_runs}
 use Rattle.rules.proofs.Bool.{split}
-use Rattle.stage.specs.View.{part, seen}
-use Rattle.stage.proofs.View.{seen_none}
-use Rattle.runs.specs.Rest.{Meets, Passed, Zoned, walk_of}
-use Rattle.runs.proofs.Walking.{Walking, walking-broken, walking-end, walking_start, walking-step}
+use Rattle.std.specs.Prelude.{Option, None}
+use Rattle.stage.specs.View.{part}
+use Rattle.stage.specs.Seen.{seen_by}
+use Rattle.runs.specs.Rest.{Passed, Zoned}
+use Rattle.runs.specs.Taken.{Taken, runs_on, walk_by}
+use Rattle.runs.specs.declared.Run.{Run as MetRun}
+use Rattle.runs.specs.declared.Runs.{Runs}
+use Rattle.runs.specs.declared.Zone.{Zone}
+use Rattle.runs.proofs.Rest.{zoned-seen}
+use Rattle.runs.proofs.Going.{Going, Took, going-broken, going-cell, going-end, going_start, going-step}
 use Rattle.objects.specs.Named.{object_run}
 use Rattle.objects.proofs.Naming.{body-inside, body-length, passed-object}
 use Rattle.totals.specs.Totalled.{Added, Small, Summed, Totalled}
@@ -22,8 +28,8 @@ use Rattle.totals.specs.Totalled.{Added, Small, Summed, Totalled}
 pub added-free : (v : List ℕ) (a n : ℕ) {f : Bool} → f ≡ true → Added v a n f 0 0 n
 added-free v a n e = rw e (record { objects = refl; bytes = refl; cells = refl })
 
-pub added-object : (v st : List ℕ) (a n : ℕ) {f : Bool} {h : List ℕ} {o b : ℕ} → f ≡ false → h ≡ part 16 a (seen v st 0) → o ≡ 1 → b ≡ head_length h → Added v a n f o b 0
-added-object v st a n e q i k = rw e (record { objects = i; bytes = k ∙ rw (q, seen_none v st); cells = refl })
+pub added-object : (v : List ℕ) (a n : ℕ) {f : Bool} {h : List ℕ} {b : ℕ} → f ≡ false → h ≡ part 16 a v → b ≡ head_length h → Added v a n f 1 b 0
+added-object v a n e q k = rw e (record { objects = refl; bytes = k ∙ rw q; cells = refl })
 
 -- the run r of m cells adds o, b, f
 pub record Adds (r : Run) (m o b f : ℕ) : Type 0 where
@@ -55,58 +61,63 @@ module _ {v : List ℕ} {from n c : ℕ} {a : Bool} {m : ℕ} {f : Bool} (z : Zo
 
 -- ---- a number of each run, added up
 
--- the runs before cell c add up to k, at most u a cell
-pub record SummingRuns (g : Run → ℕ) (u : ℕ) (v : List ℕ) (from n c : ℕ) (after : Bool) (k : ℕ) : Type 0 where
-  pub walking : Walking (λ w. k + sum_runs g w.runs) (sum_runs g (walk_of v from n).runs) v from n c after
-  pub few : k ≤ u * c
+-- the runs before i add up to k, at most u a cell
+pub record SummingRuns (g : Run → ℕ) (u : ℕ) (z : Zone) (i : Runs) (k : ℕ) : Type 0 where
+  pub going : Going (λ c w. k + sum_runs g w.runs) (sum_runs g (walk_by z).runs) z i
+  pub few : k ≤ u * i.cell
 
-runs-start : {g : Run → ℕ} {u : ℕ} {v : List ℕ} {from n : ℕ} → Zoned v from n → SummingRuns g u v from n 0 false 0
-runs-start z = record { walking = walking_start z (zero-add _); few = omega arith }
+runs-start : {g : Run → ℕ} {u : ℕ} {z : Zone} {i j : Runs} → i ≡ runs_on z 0 false → j ≡ i → SummingRuns g u z j 0
+runs-start p q = record { going = going_start p q (zero-add _); few = omega arith }
 
-module _ {g : Run → ℕ} {u : ℕ} {v : List ℕ} {from n c : ℕ} {after : Bool} {k : ℕ} (i : SummingRuns g u v from n c after k) where
-  runs-step : {m : ℕ} {f : Bool} (d : Passed v from n c after m f) {j : ℕ} → (j ≡ g d.that) × (j ≤ u * m) → SummingRuns g u v from n (c + m) f (k + j)
+module _ {g : Run → ℕ} {u : ℕ} {z : Zone} {i : Runs} {k : ℕ} (s : SummingRuns g u z i k) where
+  runs-step : {m : MetRun} {t : Runs} (d : Took z i m t) {j : ℕ} → (j ≡ g d.passed.that) × (j ≤ u * m.cells) → SummingRuns g u z t (k + j)
   unfolding sum_runs
   runs-step {m} d {j} q =
-      record { walking = walking-step i.walking d (λ w. rw (← q.0) (sym (add_assoc k j (sum_runs g w.runs)))); few = omega (arith, i.few, q.1, mul-add u c m) }
+      record { going = going-step s.going d (λ w. rw (← q.0) (sym (add_assoc k j (sum_runs g w.runs)))); few = rw (going-cell d) (omega (arith, s.few, q.1, mul-add u i.cell m.cells)) }
 
-  runs-summed : k + sum_runs g [] ≡ sum_runs g (walk_of v from n).runs → Summed g u v from n k
+  runs-summed : k + sum_runs g [] ≡ sum_runs g (walk_by z).runs → Summed g u (walk_by z) z.cells k
   unfolding sum_runs
-  runs-summed e = record { sum = omega (arith, e); few = omega (arith, i.few, mul-le-mul_left u i.walking.within) }
-
-  runs-broken : {m : ℕ} {f : Bool} → c < n → Meets v from n c after m f → m ≡ 0 → Summed g u v from n k
-  runs-broken h e q = runs-summed (walking-broken i.walking h e q)
-
-  runs-end : n ≤ c → Summed g u v from n k
-  runs-end h = runs-summed (walking-end i.walking h)
+  runs-summed e = record { sum = omega (arith, e); few = omega (arith, s.few, mul-le-mul_left u s.going.walking.within) }
 
 -- ---- the three totals
 
-pub record Totalling (v : List ℕ) (from n c : ℕ) (after : Bool) (o b f : ℕ) : Type 0 where
-  pub objects : SummingRuns one_object 1 v from n c after o
-  pub bytes : SummingRuns body_length 64 v from n c after b
-  pub free : SummingRuns free_cells 1 v from n c after f
+pub record Totalling (z : Zone) (i : Runs) (o b f : ℕ) : Type 0 where
+  pub objects : SummingRuns one_object 1 z i o
+  pub bytes : SummingRuns body_length 64 z i b
+  pub free : SummingRuns free_cells 1 z i f
 
-pub totalling-start : {v : List ℕ} {from n o b f : ℕ} → Zoned v from n → (o ≡ 0) × (b ≡ 0) × (f ≡ 0) → Totalling v from n 0 false o b f
-totalling-start z e = rw (e.0, e.1, e.2) (record { objects = runs-start z; bytes = runs-start z; free = runs-start z })
+pub totalling-start : {z : Zone} {i j : Runs} {o b f : ℕ} → i ≡ runs_on z 0 false → j ≡ i → (o ≡ 0) × (b ≡ 0) × (f ≡ 0) → Totalling z j o b f
+totalling-start p q e = rw (e.0, e.1, e.2) (record { objects = runs-start p q; bytes = runs-start p q; free = runs-start p q })
 
-module _ {v : List ℕ} {from n c : ℕ} {after : Bool} {o b f : ℕ} (i : Totalling v from n c after o b f) where
-  pub totalling-step : {m : ℕ} {x : Bool} → Passed v from n c after m x → {o₁ b₁ f₁ o₂ b₂ f₂ : ℕ} → Added v (from + 64 * c) m x o₁ b₁ f₁
-      → (o₂ ≡ o + o₁) × (b₂ ≡ b + b₁) × (f₂ ≡ f + f₁) → Totalling v from n (c + m) x o₂ b₂ f₂
+module _ {z : Zone} {i : Runs} {o b f : ℕ} (s : Totalling z i o b f) where
+  pub totalling-step : {m : MetRun} {t : Runs} → Took z i m t → {o₁ b₁ f₁ o₂ b₂ f₂ : ℕ} → Added (seen_by z.view) (z.from + 64 * m.cell) m.cells m.free o₁ b₁ f₁
+      → (o₂ ≡ o + o₁) × (b₂ ≡ b + b₁) × (f₂ ≡ f + f₁) → Totalling z t o₂ b₂ f₂
   totalling-step d p e =
-      let q = run-adds i.objects.walking.zoned d p in
-      rw (e.0, e.1, e.2) (record { objects = runs-step i.objects d q.objects; bytes = runs-step i.bytes d q.bytes; free = runs-step i.free d q.free })
+      let q = run-adds (zoned-seen z) d.passed p in
+      rw (e.0, e.1, e.2) (record { objects = runs-step s.objects d q.objects; bytes = runs-step s.bytes d q.bytes; free = runs-step s.free d q.free })
 
-  pub totalling-broken : {m : ℕ} {x : Bool} → c < n → Meets v from n c after m x → m ≡ 0 → Totalled v from n o b f
-  totalling-broken h e k = record { objects = runs-broken i.objects h e k; bytes = runs-broken i.bytes h e k; free = runs-broken i.free h e k }
+  pub totalling-broken : {x : Option MetRun} {t : Runs} → Taken i x t → x ≡ None → Totalled (walk_by z) z.cells o b f
+  totalling-broken k e =
+      record {
+        objects = runs-summed s.objects (going-broken s.objects.going k e);
+        bytes = runs-summed s.bytes (going-broken s.bytes.going k e);
+        free = runs-summed s.free (going-broken s.free.going k e);
+      }
 
-  pub totalling-end : n ≤ c → Totalled v from n o b f
-  totalling-end h = record { objects = runs-end i.objects h; bytes = runs-end i.bytes h; free = runs-end i.free h }
+  pub totalling-end : i.zone.cells ≤ i.cell → Totalled (walk_by z) z.cells o b f
+  totalling-end h =
+      record {
+        objects = runs-summed s.objects (going-end s.objects.going h);
+        bytes = runs-summed s.bytes (going-end s.bytes.going h);
+        free = runs-summed s.free (going-end s.free.going h);
+      }
 
   -- the totals are small, and so is what a run adds
-  pub totals-small : n < 65536 → Small o b f
-  totals-small h = let w = i.objects.walking.within in record { objects = omega (arith, i.objects.few); bytes = omega (arith, i.bytes.few); free = omega (arith, i.free.few) }
+  pub totals-small : z.cells < 65536 → Small o b f
+  totals-small h = let w = s.objects.going.walking.within in record { objects = omega (arith, s.objects.few); bytes = omega (arith, s.bytes.few); free = omega (arith, s.free.few) }
 
-pub run_small : {v : List ℕ} {from n c : ℕ} {a : Bool} {m : ℕ} {f : Bool} {o b k : ℕ} → Zoned v from n → n < 65536 → Passed v from n c a m f → Added v (from + 64 * c) m f o b k → Small o b k
-run_small z h d p =
-    let q = run-adds z d p in
-    record { objects = omega (arith, q.objects.1, d.within); bytes = omega (arith, q.bytes.1, d.within); free = omega (arith, q.free.1, d.within) }
+pub run_small : {z : Zone} {i t : Runs} {m : MetRun} {o b k : ℕ} → z.cells < 65536 → Took z i m t → Added (seen_by z.view) (z.from + 64 * m.cell) m.cells m.free o b k → Small o b k
+run_small {z} h d p =
+    let q = run-adds (zoned-seen z) d.passed p in
+    let w = d.passed.within in
+    record { objects = omega (arith, q.objects.1); bytes = omega (arith, q.bytes.1); free = omega (arith, q.free.1) }

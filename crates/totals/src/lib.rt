@@ -1,17 +1,18 @@
 // The totals under poolscan's lines (A.7): one pass over each zone's heads. Runs before a break count, and damaged objects too.
 #![tactic(auto)]
 
-ghost use Rattle.std.specs.Prelude.{◌≡◌, [], ◌+◌, ◌%◌, ◌≤◌, ◌<◌, length};
-ghost use Rattle.stage.specs.View.{Staged};
-ghost use Rattle.runs.specs.Rest.{Zoned};
-ghost use Rattle.layout.specs.Meaning.{shape_of, Shaped};
+ghost use Rattle.std.specs.Prelude.{◌≡◌, ◌+◌, ◌*◌, ◌<◌};
+ghost use Rattle.stage.specs.Seen.{seen_by};
+ghost use Rattle.layout.specs.Meaning.{shape_of};
+ghost use Rattle.runs.specs.Taken.{walk_by};
 ghost use Rattle.totals.specs.Totalled.{Added, LinesTotalled, Small, Totalled};
 
-use layout::Shape;
-use runs::Zone;
+use layout::Pool;
+use runs::{Run, Zone};
+use zones::Zones;
 
 // Objects, the bytes of their bodies, free cells.
-#[derive(Clone, Copy)]
+#[derive(Clone, Copy, Default)]
 pub struct Totals {
     pub objects: usize,
     pub bytes: usize,
@@ -19,16 +20,7 @@ pub struct Totals {
 }
 
 impl Totals {
-    fn none() -> Totals
-        ensures { (result.objects ≡ 0) × (result.bytes ≡ 0) × (result.free ≡ 0) }
-    {
-        Totals {
-            objects: 0,
-            bytes: 0,
-            free: 0,
-        }
-    }
-
+    // No Add: it has a requires.
     fn plus(self, t: Totals) -> Totals
         requires { Small self.objects self.bytes self.free × Small t.objects t.bytes t.free }
         ensures { (result.objects ≡ self.objects + t.objects) × (result.bytes ≡ self.bytes + t.bytes) × (result.free ≡ self.free + t.free) }
@@ -41,20 +33,19 @@ impl Totals {
     }
 }
 
-// What the run of `n` cells with its head at `at` adds.
-fn run_totals(pool: &[u8], at: usize, n: usize, free: bool) -> Totals
-    requires { Staged pool.now [] 0 × (at % 8 ≡ 0) × (at + 16 ≤ length pool.now) }
-    ensures { Added pool.now at n free result.objects result.bytes result.free }
+// What a zone's run adds.
+fn run_totals(zone: &Zone, run: Run) -> Totals
+    requires { run.cell < zone.now.cells }
+    ensures { Added (seen_by zone.now.view) (zone.now.from + 64 * run.cell) run.cells run.free result.objects result.bytes result.free }
 {
-    if free {
+    if run.free {
         return Totals {
             objects: 0,
             bytes: 0,
-            free: n,
+            free: run.cells,
         };
     }
-    let none = &pool[0..0];
-    let h = heads::read_head(pool, none, none, 0, at);
+    let h = zone.head(run.cell);
     Totals {
         objects: 1,
         bytes: h.body(),
@@ -63,40 +54,29 @@ fn run_totals(pool: &[u8], at: usize, n: usize, free: bool) -> Totals
 }
 
 // The totals of a zone.
-fn zone_totals(pool: &[u8], zone: Zone) -> Totals
-    requires { Staged pool.now [] 0 × Zoned pool.now zone.from zone.cells × (zone.cells < 65536) }
-    ensures { Totalled pool.now zone.from zone.cells result.objects result.bytes result.free }
+fn zone_totals(zone: &Zone) -> Totals
+    requires { zone.now.cells < 65536 }
+    ensures { Totalled (walk_by zone.now) zone.now.cells result.objects result.bytes result.free }
 {
-    let from = zone.from;
-    let cells = zone.cells;
-    let mut totals = Totals::none();
-    let mut c = 0;
-    let mut after = false;
-    while c < cells {
-        let none = &pool[0..0];
-        let m = runs::meet(pool, none, none, 0, zone, c, after);
-        let n = m.cells;
-        if n == 0 {
+    let mut totals = Totals::default();
+    for met in zone.runs() {
+        let Some(run) = met else {
             return totals;
-        }
-        totals = totals.plus(run_totals(pool, from + 64 * c, n, m.free));
-        c += n;
-        after = m.free;
+        };
+        totals = totals.plus(run_totals(zone, run));
     }
     totals
 }
 
 // The totals of all lines.
-pub fn pool_totals(pool: &[u8], s: Shape) -> Totals
-    requires { Shaped pool.now (shape_of s) }
-    ensures { LinesTotalled (shape_of s) pool.now result.objects result.bytes result.free }
+pub fn pool_totals(pool: &Pool) -> Totals
+    ensures { LinesTotalled (shape_of pool.now.shape) pool.now.bytes.now result.objects result.bytes result.free }
 {
-    let zones = s.zones;
-    let mut totals = Totals::none();
-    let mut z = 0;
-    while z < zones {
-        totals = totals.plus(zone_totals(pool, zones::zone(s, z)));
-        z += 1;
+    let zones = Zones::committed(pool);
+    let mut totals = Totals::default();
+    // By the zone's number, of which the zone is made.
+    for z in 0..pool.shape.zones {
+        totals = totals.plus(zone_totals(&zones.zone(z)));
     }
     totals
 }

@@ -1,23 +1,15 @@
 -- `actions::log_action` meets its contract. Assumes nothing.
-use Rattle.layout.proofs.Range.{bounds}
+use mathlib.Core.Path.{◌∙◌}
 use Rattle.actions.proofs.Actions.{log-first, log-second}
-use borrow.Author.Rules.{rules}
 use Rattle.actions.proofs.log_action.Goals as goal
-
-pub overflow_add-result : goal.overflow_add-result
-overflow_add-result c = let b = bounds c.args.s c.requires.0 in search rules
-
-pub overflow_add-result-then-k-lt2 : goal.overflow_add-result-then-k-lt2
-overflow_add-result-then-k-lt2 c = let b = bounds c.args.s c.requires.0 in search rules
-
-pub returns-then-k-lt2 : goal.returns-then-k-lt2
-returns-then-k-lt2 c = search (rules, log-first)
-
-pub overflow_add-result-2 : goal.overflow_add-result-2
-overflow_add-result-2 c = let b = bounds c.args.s c.requires.0 in search rules
-
-pub overflow_add-result-3 : goal.overflow_add-result-3
-overflow_add-result-3 c = let b = bounds c.args.s c.requires.0 in search rules
+use Rattle.actions.proofs.log_action.Goals.{then-k-lt2, else-k-lt2}
 
 pub returns : goal.returns
-returns c = search (rules, log-second)
+returns c =
+    let s = c.args.s in
+    let first = log-first s _ _ _ _ c.requires.0 c.requires.1 c.load64.ensures in
+    let second = log-second s _ _ _ _ c.requires.0 c.requires.1 c.load64.ensures in
+    elim c.if-k-lt2.branch [
+      | then-k-lt2 w ↦ first _ w.if-k-lt2.true (w.log-is ∙ w.log_a-log.ensures)
+      | else-k-lt2 w ↦ second _ w.if-k-lt2.false (w.log-is ∙ w.log_b-log.ensures)
+    ]

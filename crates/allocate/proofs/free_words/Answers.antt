@@ -3,8 +3,8 @@ use Rattle.allocate.proofs.Placed.{free-none, free-some}
 use native.Mathlib.Omega.{arith}
 use Rattle.allocate.proofs.free_words.Goals as goal
 
-pub returns-then-left-gt0 : goal.returns-then-left-gt0
-returns-then-left-gt0 c = let e = free-some c.args.left (omega arith) in (omega arith, omega arith)
+pub returns-then-left-eq0 : goal.returns-then-left-eq0
+returns-then-left-eq0 c = (free-none c.args.left (omega arith), omega arith)
 
-pub returns : goal.returns
-returns c = let e = free-none c.args.left (omega arith) in (omega arith, omega arith)
+pub returns-else-left-eq0 : goal.returns-else-left-eq0
+returns-else-left-eq0 c = (free-some c.args.left (omega arith), omega arith)

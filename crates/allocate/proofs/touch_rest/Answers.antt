@@ -8,8 +8,8 @@ touch_head-requires c =
     let e = free-some c.args.cells (omega arith) in
     (rw e c.requires.0, c.requires.2, λ f. rw e (c.requires.3 f))
 
-pub returns-then-cells-gt0 : goal.returns-then-cells-gt0
-returns-then-cells-gt0 c = touched-free _ _ (omega arith) c.free_head-h.ensures c.touch_head.ensures
+pub returns-then-cells-eq0 : goal.returns-then-cells-eq0
+returns-then-cells-eq0 c = touched-left _ _ _ (omega arith)
 
 pub returns : goal.returns
-returns c = touched-left _ _ _ (omega arith)
+returns c = touched-free _ _ (omega arith) c.free_head-h.ensures c.touch_head.ensures

@@ -7,15 +7,14 @@ use Rattle.overwrite.proofs.new_check.Goals as goal
 pub loop-i-init : goal.loop-i-init
 loop-i-init c = checking-start _ _ _ _ _
 
-pub staged_word-word-requires : goal.staged_word-word-requires
-staged_word-word-requires c =
-    (c.requires.0, omega arith, omega (arith, c.requires.0.words), c.requires.3)
+pub word-word-requires : goal.word-word-requires
+word-word-requires c = (omega arith, omega (arith, c.args.view.now.words))
 
 pub word_check-sum-requires : goal.word_check-sum-requires
 word_check-sum-requires c = (omega arith, rw (rest_all _ _, length-drop _ _) (omega arith))
 
 pub loop-i-preserved : goal.loop-i-preserved
-loop-i-preserved c = checking-step c.loop-i.invariant c.staged_word-word.ensures c.word_check-sum.ensures
+loop-i-preserved c = checking-step c.loop-i.invariant c.word-word.ensures c.word_check-sum.ensures
 
 pub returns : goal.returns
 returns c = checking-end c.loop-i.invariant c.loop-i-test.false

@@ -12,9 +12,6 @@ known_word-requires c =
     let l = c.loop-done in
     (ranging-staged c.requires.0 l.invariant.0, omega arith, omega (arith, c.requires.0.words, c.requires.1.inside), λ f. fresh-word c.args.at (l.invariant.1 f) c.loop-done-test.true)
 
-pub lay_word-word-requires : goal.lay_word-word-requires
-lay_word-word-requires c = omega arith
-
 pub touch_known-n-requires : goal.touch_known-n-requires
 touch_known-n-requires c =
     (ranging-room c.loop-done.invariant.0 (omega arith), λ f. fresh-word c.args.at (c.loop-done.invariant.1 f) c.loop-done-test.true)

@@ -1,37 +1,23 @@
 -- `repair::any_above` meets its contract. Assumes nothing.
-use Prim.Native.Nat.{◌-◌}
-use mathlib.Core.Path.{refl, ◌∙◌}
+use Rattle.std.proofs.Common.{rules, tests}
+use Rattle.std.proofs.lemmas.Iterator.{YieldsList-from_slice}
+use Rattle.std.proofs.lemmas.Iterator.Search.{any_from_yields_List}
+use Prim.Native.Nat.{◌+◌, ◌*◌, ◌%◌, ◌^◌}
+use mathlib.Core.Path.{◌∙◌}
 use native.Mathlib.Omega.{arith}
-use borrow.Author.Tests.{le-leb, lt-leb}
-use borrow.Author.Rules.{rules}
+use lib.Dec.{leb}
 use Rattle.layout.specs.Meaning.{shape_of}
 use Rattle.layout.proofs.Range.{bounds}
-use Rattle.repair.proofs.Masks.{any-end, mask_end, above-any, any-hit, any-pass}
+use Rattle.repair.proofs.Masks.{above-any, mask_end}
 use Rattle.repair.proofs.any_above.Goals as goal
 
 pub overflow_add-end : goal.overflow_add-end
-overflow_add-end c = let b = bounds c.args.s c.requires in omega arith
+overflow_add-end c = omega (arith, bounds c.args.s)
 
 pub overflow_shl-end : goal.overflow_shl-end
-overflow_shl-end c = let b = bounds c.args.s c.requires in omega arith
-
-pub loop-i-init : goal.loop-i-init
-loop-i-init c = (search rules, refl, refl)
-
-pub overflow_cast-lost : goal.overflow_cast-lost
-overflow_cast-lost c = omega (arith, c.shared_slice_known-1.given c.loop-i.i)
-
-pub returns-then-end-lost : goal.returns-then-end-lost
-returns-then-end-lost c =
-    let l = c.loop-i in
-    any-hit _ c.args.lost.now l.i l.invariant.2 (omega arith) (le-leb _ _ c.if-end-lost.true) ∙ above-any (shape_of c.args.s) _ c.args.lost.now (mask_end c.args.s.rows (bounds c.args.s c.requires).rows-high)
-
-pub loop-i-preserved : goal.loop-i-preserved
-loop-i-preserved c =
-    let l = c.loop-i in
-    (omega arith, l.invariant.1, any-pass _ c.args.lost.now l.i l.invariant.2 (omega arith) (lt-leb _ _ c.if-end-lost.false))
+overflow_shl-end c = omega (arith, bounds c.args.s)
 
 pub returns : goal.returns
 returns c =
-    let l = c.loop-i in
-    any-end _ c.args.lost.now l.i l.invariant.2 (omega arith) ∙ above-any (shape_of c.args.s) _ c.args.lost.now (mask_end c.args.s.rows (bounds c.args.s c.requires).rows-high)
+    any_from_yields_List (leb (1 * 2 ^ (c.args.s.rows + 1) % 2 ^ 64)) _ _ _ c.any.ensures.ran (YieldsList-from_slice c.args.lost.now cc) (λ x b q k. search (rules, tests))
+    ∙ above-any (shape_of c.args.s) _ c.args.lost.now (mask_end c.args.s.rows (bounds c.args.s).rows-high)

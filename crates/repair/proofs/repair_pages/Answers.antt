@@ -1,5 +1,5 @@
 -- `repair::repair_pages` meets its contract. Assumes nothing.
-use Prim.Native.Nat.{ℕ, ◌+◌, ◌-◌}
+use Prim.Native.Nat.{ℕ, ◌+◌}
 use mathlib.Core.Path.{refl, sym, ap, ◌∙◌}
 use native.Mathlib.Omega.{arith}
 use borrow.Author.Rules.{rules}
@@ -19,14 +19,14 @@ rebuild_column-altered-requires c =
     let l = c.loop-k in
     let g : Rebuildable (shape_of c.args.s) c.args.pool.now c.args.lost.now =
     record {
-      good = shape-good c.args.s c.requires.0;
-      size = c.requires.1;
-      rows = (bounds c.args.s c.requires.0).rows-high;
-      masks = c.requires.2;
-      above = c.requires.3;
-      two = c.requires.4;
+      good = shape-good c.args.s;
+      size = c.requires.0;
+      rows = (bounds c.args.s).rows-high;
+      masks = c.requires.1;
+      above = c.requires.2;
+      two = c.requires.3;
     } in
-    (c.requires.0, l.invariant.2 ∙ c.requires.1, omega arith, mask-small g l.k, mask_one g l.k c.if-mask-ne0.true)
+    (l.invariant.2 ∙ c.requires.0, omega arith, mask-small g l.k, mask_one g l.k c.if-mask-ne0.true)
 
 -- both numbers are at most the pool's length
 pub overflow_add-altered : goal.overflow_add-altered
@@ -40,12 +40,12 @@ loop-k-preserved c =
     let l = c.loop-k in
     let g : Rebuildable (shape_of c.args.s) c.args.pool.now c.args.lost.now =
     record {
-      good = shape-good c.args.s c.requires.0;
-      size = c.requires.1;
-      rows = (bounds c.args.s c.requires.0).rows-high;
-      masks = c.requires.2;
-      above = c.requires.3;
-      two = c.requires.4;
+      good = shape-good c.args.s;
+      size = c.requires.0;
+      rows = (bounds c.args.s).rows-high;
+      masks = c.requires.1;
+      above = c.requires.2;
+      two = c.requires.3;
     } in
     let n : Repairing (shape_of c.args.s) c.args.pool.now c.args.lost.now (l.k + 1) c.if-mask-ne0.pool c.if-mask-ne0.altered =
     elim c.if-mask-ne0.branch [

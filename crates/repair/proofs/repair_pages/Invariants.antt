@@ -1,5 +1,5 @@
 -- `repair::repair_pages` meets its contract. Assumes nothing.
-use Prim.Native.Nat.{◌-◌, ◌≤◌}
+use Prim.Native.Nat.{◌≤◌}
 use mathlib.Core.Path.{◌≡◌}
 use lib.ListN.{length}
 use Rattle.layout.specs.Meaning.{shape_of}
@@ -9,6 +9,3 @@ use Rattle.repair.proofs.repair_pages.Given as goal
 abbrev pub invariant-loop-k : goal.invariant-loop-k
 invariant-loop-k l =
     (l.k ≤ length l.lost) × (l.k-end ≡ length l.lost) × (length l.pool ≡ length l.initial.pool) × Repairing (shape_of l.s) l.initial.pool l.lost l.k l.pool l.altered
-
-abbrev pub decreases-loop-k : goal.decreases-loop-k
-decreases-loop-k l = length l.lost - l.k

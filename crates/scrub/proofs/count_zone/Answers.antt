@@ -1,54 +1,37 @@
 -- `scrub::count_zone` meets its contract. Assumes nothing.
 use mathlib.Core.Path.{refl}
-use Rattle.runs.proofs.Rest.{meets-pool}
-use Rattle.runs.proofs.Walking.{walking-broken, walking-end, walking-passed, walking_start, walking-step}
-use Rattle.stage.proofs.Index.{indexed-none}
-use Rattle.scrub.proofs.Counting.{object-there, tallied, tallies-step}
+use Rattle.runs.proofs.Rest.{zoned-seen}
+use Rattle.runs.proofs.Going.{going-broken, going-cell, going-end, going_start, going-step, going-took}
+use Rattle.scrub.proofs.Counting.{object-there, one-if, tallied, tallies-step}
 use native.Mathlib.Omega.{arith}
 use Rattle.scrub.proofs.count_zone.Goals as goal
 
-pub loop-c-init : goal.loop-c-init
-loop-c-init c = (walking_start c.requires.1 refl, omega arith, omega arith)
+pub loop-met-init : goal.loop-met-init
+loop-met-init c = (going_start c.runs-met-items.ensures c.into_iter-met-iterator.ensures.into_iter_gives refl, omega arith, omega arith)
 
-pub meet-m-requires : goal.meet-m-requires
-meet-m-requires c = (c.requires.0, c.requires.1, c.loop-c-test.true, indexed-none _ _)
+pub returns-in_default : goal.returns-in_default
+returns-in_default c =
+    let i = c.loop-met.invariant in
+    tallied c.loop-met.met-iterator.cell (going-broken i.0 c.in-Some.ensures.steps c.in_default.is) (omega (arith, i.1, i.0.walking.within)) (omega (arith, i.2, i.0.walking.within))
 
-pub returns-then-n-eq0 : goal.returns-then-n-eq0
-returns-then-n-eq0 c =
-    let i = c.loop-c.invariant in
-    tallied (walking-broken i.0 c.loop-c-test.true (meets-pool _ c.meet-m.ensures) c.if-n-eq0.true) (omega (arith, i.1, i.0.within)) (omega (arith, i.2, i.0.within))
+pub is_damaged-requires : goal.is_damaged-requires
+is_damaged-requires c =
+    let d = (going-took c.loop-met.invariant.0 c.in-Some.ensures.steps c.in-Some-met.is).passed in
+    (omega (arith, d.within, d.some), λ e. object-there (zoned-seen c.args.zone.now) d e)
 
-pub overflow_add-objects : goal.overflow_add-objects
-overflow_add-objects c = omega (arith, c.loop-c.invariant.1, c.loop-c-test.true, c.requires.1.inside)
-
-pub overflow_mul-c : goal.overflow_mul-c
-overflow_mul-c c = omega (arith, c.loop-c-test.true, c.requires.1.inside)
-
-pub overflow_add-from : goal.overflow_add-from
-overflow_add-from c = omega (arith, c.loop-c-test.true, c.requires.1.inside)
-
-pub damaged_at-requires : goal.damaged_at-requires
-damaged_at-requires c =
-    (c.requires.0, omega (arith, c.requires.1.even), λ e. object-there c.requires.1 (walking-passed c.loop-c.invariant.0 c.loop-c-test.true (meets-pool _ c.meet-m.ensures) c.if-n-eq0.false) e)
-
-pub overflow_add-damaged : goal.overflow_add-damaged
-overflow_add-damaged c = omega (arith, c.loop-c.invariant.2, c.loop-c-test.true, c.requires.1.inside)
-
-pub overflow_add-c : goal.overflow_add-c
-overflow_add-c c = omega (arith, (walking-passed c.loop-c.invariant.0 c.loop-c-test.true (meets-pool _ c.meet-m.ensures) c.if-n-eq0.false).within)
-
-pub loop-c-smaller : goal.loop-c-smaller
-loop-c-smaller c = let p = (walking-passed c.loop-c.invariant.0 c.loop-c-test.true (meets-pool _ c.meet-m.ensures) c.if-n-eq0.false) in omega (arith, p.within, p.some)
-
-pub loop-c-preserved : goal.loop-c-preserved
-loop-c-preserved c =
-    let i = c.loop-c.invariant in
-    let p = (walking-passed c.loop-c.invariant.0 c.loop-c-test.true (meets-pool _ c.meet-m.ensures) c.if-n-eq0.false) in
-    let o = c.one_if-objects.ensures in
-    let d = c.one_if-damaged.ensures in
-    (walking-step i.0 p (tallies-step _ _ p o.0 c.damaged_at.ensures d.0), omega (arith, i.1, o.1, p.some), omega (arith, i.2, d.1, p.some))
+pub loop-met-preserved : goal.loop-met-preserved
+loop-met-preserved c =
+    let i = c.loop-met.invariant in
+    let k = going-took i.0 c.in-Some.ensures.steps c.in-Some-met.is in
+    let o = one-if _ c.from-objects.ensures in
+    let d = one-if _ c.from-damaged.ensures in
+    let n = going-cell k in (
+      going-step i.0 k (tallies-step _ _ k.passed o.0 c.is_damaged.ensures d.0),
+      omega (arith, i.1, o.1, n, k.passed.some),
+      omega (arith, i.2, d.1, n, k.passed.some),
+    )
 
 pub returns : goal.returns
 returns c =
-    let i = c.loop-c.invariant in
-    tallied (walking-end i.0 c.loop-c-test.false) (omega (arith, i.1, i.0.within)) (omega (arith, i.2, i.0.within))
+    let i = c.loop-met.invariant in
+    tallied c.loop-met.met-iterator.cell (going-end i.0 c.in-None.ensures.steps) (omega (arith, i.1, i.0.walking.within)) (omega (arith, i.2, i.0.walking.within))

@@ -1,39 +1,27 @@
 -- `tags::look_up` meets its contract. Assumes nothing.
-use Prim.Native.Nat.{◌-◌}
-use Rattle.zones.proofs.Shaped.{staged-none, zone-inside}
-use Rattle.tags.proofs.ScanningZones.{addresses-small, zones-absent, zones-at, zones-broken, zones-start, zones-step}
+use mathlib.Core.Path.{◌∙◌}
 use native.Mathlib.Omega.{arith}
+use Rattle.std.proofs.lemmas.Result.{err_from_is_err_and}
+use Rattle.zones.proofs.Shaped.{zone-of}
+use Rattle.tags.proofs.ScanningZones.{addresses-small, hit-found, zones-broken, zones-end, zones-start, zones-step}
 use Rattle.tags.proofs.look_up.Goals as goal
 
 pub loop-z-init : goal.loop-z-init
 loop-z-init c = zones-start _ _ _ _
 
-pub zone-zone-requires : goal.zone-zone-requires
-zone-zone-requires c = (c.requires.range, c.loop-z-test.true)
-
 pub overflow_mul-z : goal.overflow_mul-z
-overflow_mul-z c =
-    omega (arith, addresses-small c.args.s c.requires.range c.loop-z-test.true c.zone-zone.ensures)
+overflow_mul-z c = omega (arith, addresses-small c.args.pool.now.shape c.loop-z-test.true (zone-of c.committed-zones.ensures.shape c.zone-zone.ensures))
 
-pub scan_zone-p-requires : goal.scan_zone-p-requires
-scan_zone-p-requires c =
-    let l = c.loop-z-test.true in
-    let e = c.zone-zone.ensures in
-    (staged-none c.args.s c.requires _, zone-inside c.args.s c.requires.range c.requires.size l e, addresses-small c.args.s c.requires.range l e)
+pub scan_zone-requires : goal.scan_zone-requires
+scan_zone-requires c = addresses-small c.args.pool.now.shape c.loop-z-test.true (zone-of c.committed-zones.ensures.shape c.zone-zone.ensures)
 
-pub returns-then-not-p : goal.returns-then-not-p
-returns-then-not-p c =
-    zones-broken c.loop-z.invariant c.loop-z-test.true c.zone-zone.ensures c.scan_zone-p.ensures c.if-not-p.true
-
-pub loop-z-smaller : goal.loop-z-smaller
-loop-z-smaller c = let l = c.loop-z-test.true in omega arith
+pub returns-in_err-hit : goal.returns-in_err-hit
+returns-in_err-hit c =
+    let p = err_from_is_err_and c.from_residual.result c.from_residual.ensures.1 in
+    rw (p.1, p.2) (zones-broken c.loop-z.invariant c.loop-z-test.true c.committed-zones.ensures.view (zone-of c.committed-zones.ensures.shape c.zone-zone.ensures) c.in_err-hit.ensures)
 
 pub loop-z-preserved : goal.loop-z-preserved
-loop-z-preserved c =
-    zones-step c.loop-z.invariant c.loop-z-test.true c.zone-zone.ensures c.scan_zone-p.ensures c.if-not-p.false
-
-pub returns-then-hit-eq0 : goal.returns-then-hit-eq0
-returns-then-hit-eq0 c = zones-absent c.loop-z.invariant c.loop-z-test.false c.if-hit-eq0.true
+loop-z-preserved c = zones-step c.loop-z.invariant c.loop-z-test.true c.committed-zones.ensures.view (zone-of c.committed-zones.ensures.shape c.zone-zone.ensures) c.in_ok-hit.ensures
 
 pub returns : goal.returns
-returns c = zones-at c.loop-z.invariant c.loop-z-test.false c.if-hit-eq0.false
+returns c = hit-found c.loop-z.hit ∙ zones-end c.loop-z.invariant c.loop-z-test.false

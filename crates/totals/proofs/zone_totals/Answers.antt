@@ -1,36 +1,28 @@
 -- `totals::zone_totals` meets its contract. Assumes nothing.
-use Prim.Native.Nat.{◌-◌}
-use Rattle.runs.proofs.Rest.{meets-pool}
-use Rattle.runs.proofs.Walking.{walking-passed}
-use Rattle.stage.proofs.Index.{indexed-none}
-use Rattle.totals.proofs.Totalling.{run_small, totalling-broken, totalling-end, totalling-start, totalling-step, totals-small}
 use native.Mathlib.Omega.{arith}
+use Rattle.runs.proofs.Going.{going-took}
+use Rattle.totals.proofs.Totalling.{run_small, totalling-broken, totalling-end, totalling-start, totalling-step, totals-small}
 use Rattle.totals.proofs.zone_totals.Goals as goal
 
-pub loop-c-init : goal.loop-c-init
-loop-c-init c = totalling-start c.requires.1 c.none-totals.ensures
+pub loop-met-init : goal.loop-met-init
+loop-met-init c = let e = c.default-totals.ensures in totalling-start c.runs-met-items.ensures c.into_iter-met-iterator.ensures.into_iter_gives (e.0, e.1.0, e.1.1)
 
-pub meet-m-requires : goal.meet-m-requires
-meet-m-requires c = (c.requires.0, c.requires.1, c.loop-c-test.true, indexed-none _ _)
-
-pub returns-then-n-eq0 : goal.returns-then-n-eq0
-returns-then-n-eq0 c = totalling-broken c.loop-c.invariant c.loop-c-test.true (meets-pool _ c.meet-m.ensures) c.if-n-eq0.true
+pub returns-in_default : goal.returns-in_default
+returns-in_default c = totalling-broken c.loop-met.invariant c.in-Some.ensures.steps c.in_default.is
 
 pub run_totals-requires : goal.run_totals-requires
-run_totals-requires c = (c.requires.0, omega (arith, c.requires.1.even), omega (arith, c.loop-c-test.true, c.requires.1.inside))
+run_totals-requires c =
+    let d = (going-took c.loop-met.invariant.objects.going c.in-Some.ensures.steps c.in-Some-met.is).passed in omega (arith, d.within, d.some)
 
 pub plus-totals-requires : goal.plus-totals-requires
 plus-totals-requires c =
-    (totals-small c.loop-c.invariant c.requires.2, run_small c.requires.1 c.requires.2 (walking-passed c.loop-c.invariant.objects.walking c.loop-c-test.true (meets-pool _ c.meet-m.ensures) c.if-n-eq0.false) c.run_totals.ensures)
+    let k = going-took c.loop-met.invariant.objects.going c.in-Some.ensures.steps c.in-Some-met.is in
+    (totals-small c.loop-met.invariant c.requires, run_small c.requires k c.run_totals.ensures)
 
-pub overflow_add-c : goal.overflow_add-c
-overflow_add-c c = omega (arith, (walking-passed c.loop-c.invariant.objects.walking c.loop-c-test.true (meets-pool _ c.meet-m.ensures) c.if-n-eq0.false).within)
-
-pub loop-c-smaller : goal.loop-c-smaller
-loop-c-smaller c = let p = (walking-passed c.loop-c.invariant.objects.walking c.loop-c-test.true (meets-pool _ c.meet-m.ensures) c.if-n-eq0.false) in omega (arith, p.within, p.some)
-
-pub loop-c-preserved : goal.loop-c-preserved
-loop-c-preserved c = totalling-step c.loop-c.invariant (walking-passed c.loop-c.invariant.objects.walking c.loop-c-test.true (meets-pool _ c.meet-m.ensures) c.if-n-eq0.false) c.run_totals.ensures c.plus-totals.ensures
+pub loop-met-preserved : goal.loop-met-preserved
+loop-met-preserved c =
+    let k = going-took c.loop-met.invariant.objects.going c.in-Some.ensures.steps c.in-Some-met.is in
+    totalling-step c.loop-met.invariant k c.run_totals.ensures c.plus-totals.ensures
 
 pub returns : goal.returns
-returns c = totalling-end c.loop-c.invariant c.loop-c-test.false
+returns c = totalling-end c.loop-met.invariant c.in-None.ensures.steps

@@ -2,20 +2,21 @@
 use mathlib.Core.Path.{refl}
 use native.Mathlib.Omega.{arith}
 use Rattle.layout.specs.Meaning.{shape_of}
+use Rattle.layout.proofs.Range.{in_range}
 use Rattle.actions.proofs.PartMade.{ready-kept, redo-by-data, redo-by-parity, redo-by-seals}
 use Rattle.actions.proofs.parts.redo_part.Goals as goal
 
 pub returns-then-k-n : goal.returns-then-k-n
-returns-then-k-n c = redo-by-data (shape_of c.args.s) _ _ _ _ (omega arith) c.data_part.ensures
+returns-then-k-n g c = redo-by-data (shape_of c.args.s) _ _ _ _ c.if-k-n.true c.data_part.ensures
 
 pub parity_part-requires : goal.parity_part-requires
-parity_part-requires c = (c.requires.0, ready-kept c.requires.1 refl (omega arith), omega arith)
+parity_part-requires g c = (ready-kept c.requires.0 refl (omega arith), c.requires.1, omega arith)
 
 pub returns-then-k-n-2 : goal.returns-then-k-n-2
-returns-then-k-n-2 c = redo-by-parity (shape_of c.args.s) _ _ _ _ (omega arith) (omega arith) c.parity_part.ensures
+returns-then-k-n-2 g c = redo-by-parity (shape_of c.args.s) _ _ _ _ c.if-k-n.false c.if-k-n-2.true c.parity_part.ensures
 
 pub seal_part-requires : goal.seal_part-requires
-seal_part-requires c = (record { range = c.requires.0; size = c.requires.1.whole }, omega arith)
+seal_part-requires g c = (record { range = in_range c.args.s; size = c.requires.0.whole }, omega arith)
 
 pub returns : goal.returns
-returns c = redo-by-seals (shape_of c.args.s) _ _ _ _ (omega arith) (omega arith) (omega arith) c.seal_part.ensures
+returns g c = redo-by-seals (shape_of c.args.s) _ _ _ _ c.if-k-n.false c.if-k-n-2.false c.requires.2 c.seal_part.ensures

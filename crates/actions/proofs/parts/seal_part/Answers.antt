@@ -10,10 +10,10 @@ use Rattle.actions.proofs.parts.seal_part.Goals as goal
 use Rattle.actions.proofs.parts.seal_part.Goals.{then-j-eq0, else-j-eq0}
 
 pub store64-requires : goal.store64-requires
-store64-requires c = let g = shaped-room c.args.pool.now c.args.s c.requires.0 in let m = (shape-good c.args.s c.requires.0.range).page-min in omega arith
+store64-requires c = let g = shaped-room c.args.pool.now c.args.s c.requires.0 in let m = (shape-good c.args.s).page-min in omega arith
 
 pub store64-requires-then-j-lt2 : goal.store64-requires-then-j-lt2
-store64-requires-then-j-lt2 c = let g = shaped-room c.args.pool.now c.args.s c.requires.0 in let m = (shape-good c.args.s c.requires.0.range).page-min in let k = c.if-j-eq0.auto.pool in omega arith
+store64-requires-then-j-lt2 c = let g = shaped-room c.args.pool.now c.args.s c.requires.0 in let m = (shape-good c.args.s).page-min in let k = c.if-j-eq0.auto.pool in omega arith
 
 pub returns-then-j-lt2 : goal.returns-then-j-lt2
 returns-then-j-lt2 c =

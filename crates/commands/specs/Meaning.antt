@@ -1,16 +1,19 @@
 -- What the code hands back: the queue's struct, what was done in the terms of Obey, and the bytes. Assumes nothing.
-use Rattle.std.specs.Prelude.{ℕ, List}
+use Rattle.std.specs.Prelude.{ℕ, List, Result, Ok, Err}
 use Rattle.errors.specs.declared.Queue.{Queue}
-use Rattle.errors.specs.Meaning.{queue_out}
+use Rattle.errors.specs.declared.Error.{Error}
+use Rattle.errors.specs.Number.{number_of}
+use Rattle.errors.specs.Meaning.{queue_in, queue_out}
 use Rattle.transaction.specs.Meaning.{transaction_of}
 use Rattle.commands.specs.Obey as Obey
+use Rattle.commands.specs.Obey.{failed}
 use Rattle.commands.specs.declared.Done.{Done}
 use Rattle.commands.specs.declared.Done.TheVariants.{Nothing, Printed, Recalled, Saving}
 
 abbrev pub done_of : Done → Obey.Done
 done_of Nothing = Obey.nothing
 done_of (Saving t) = Obey.saving (transaction_of t)
-done_of (Recalled at n) = Obey.recalled at n
+done_of (Recalled b) = Obey.recalled b.at b.length
 done_of (Printed n) = Obey.printed n
 
 -- The queue's struct, what was done, staging memory and the buffer.
@@ -19,3 +22,8 @@ Handed = Queue × Obey.Done × List ℕ × List ℕ
 
 abbrev pub handed : Obey.Obeyed → Handed
 handed x = (queue_out x.queue, x.done, x.staging, x.out)
+
+-- What a line carried out leaves, with this queue, staging memory and buffer; or its error entered.
+abbrev pub left_by : Result Done Error → Queue → List ℕ → List ℕ → Obey.Obeyed
+left_by (Ok d) queue staging out = record { queue = queue_in queue; done = done_of d; staging = staging; out = out }
+left_by (Err e) queue staging out = failed (queue_in queue) staging out (number_of e)

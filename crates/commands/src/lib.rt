@@ -2,25 +2,26 @@
 // alone. No function has a `requires`: each answers for all inputs.
 #![tactic(auto)]
 
-ghost use Rattle.std.specs.Prelude.{◌≡◌, ℕ, List};
+ghost use Rattle.std.specs.Prelude.{◌≡◌, ℕ, List, Ok};
 ghost use Rattle.errors.specs.Meaning.{queue_in};
+ghost use Rattle.errors.specs.declared.Queue as Code;
 ghost use Rattle.setups.specs.Setups.{recalled, saved};
-ghost use Rattle.commands.specs.Obey.{after_recall, after_save, answered, failed, obeyed};
-ghost use Rattle.commands.specs.Meaning.{done_of, handed};
+ghost use Rattle.commands.specs.Obey.{after_recall, after_save, answered, obeyed};
+ghost use Rattle.commands.specs.Meaning.{done_of, handed, left_by};
 
-use answers::is_refused;
-use errors::{EXECUTION_ERROR, Queue};
+use answers::Answer;
+use errors::{Error, Queue};
 use lines::Command;
 use transaction::Transaction;
 use zones::Body;
 
-// What was done: a set-up is staged in this transaction, whose commit and steps are the caller's; a set-up lies at this place of the pool,
-// with this length; a line of this length was printed.
+// What was done: a set-up is staged in this transaction, whose commit and steps are the caller's; a set-up lies there in the pool; a line of
+// this length was printed.
 #[derive(Clone, Copy)]
 pub enum Done {
     Nothing,
     Saving(Transaction),
-    Recalled(usize, usize),
+    Recalled(Body),
     Printed(usize),
 }
 
@@ -30,54 +31,50 @@ pub struct Obeyed {
     pub done: Done,
 }
 
-// Enters an error; nothing else is done.
-fn fail(queue: Queue, e: u16) -> Obeyed
-    ensures { (staging out : List ℕ) → (result.queue, done_of result.done, staging, out) ≡ handed (failed (queue_in queue) staging out e) }
-{
-    Obeyed {
-        queue: queue.enter(e),
-        done: Done::Nothing,
-    }
-}
-
 // Stages set-up `n`.
-fn save(queue: Queue, pool: &[u8], staging: &mut [u8], n: usize, setup: &[u8]) -> Obeyed
-    ensures { (out : List ℕ) → (result.queue, done_of result.done, staging.new, out) ≡ handed (after_save (queue_in queue) staging.old out (saved pool.now staging.old n setup.now)) }
+fn save(pool: &[u8], staging: &mut [u8], n: usize, setup: &[u8]) -> Result<Done, Error>
+    ensures { (queue : Code.Queue) (out : List ℕ) → left_by result queue staging.new out ≡ after_save (queue_in queue) staging.old out (saved pool.now staging.old n setup.now) }
 {
     let reply = setups::save(pool, staging, n, setup);
-    let answer = reply.answer;
-    if is_refused(answer) {
-        return fail(queue, EXECUTION_ERROR);
+    if let Answer::Refused(refusal) = reply.answer {
+        return Err(Error::from(refusal));
     }
-    let transaction = reply.transaction;
-    Obeyed {
-        queue: queue.judged(),
-        done: Done::Saving(transaction),
-    }
+    Ok(Done::Saving(reply.transaction))
 }
 
 // Tells where set-up `n` lies.
-fn recall(queue: Queue, pool: &[u8], n: usize) -> Obeyed
-    ensures { (staging out : List ℕ) → (result.queue, done_of result.done, staging, out) ≡ handed (after_recall (queue_in queue) staging out (recalled pool.now n)) }
+fn recall(pool: &[u8], n: usize) -> Result<Done, Error>
+    ensures { (queue : Code.Queue) (staging out : List ℕ) → left_by result queue staging out ≡ after_recall (queue_in queue) staging out (recalled pool.now n) }
 {
-    match setups::recall_for(pool, n) {
-        Body::Refused(_) => fail(queue, EXECUTION_ERROR),
-        Body::At(at, length) => Obeyed {
-            queue: queue.judged(),
-            done: Done::Recalled(at, length),
-        },
-    }
+    let body = setups::recall_for(pool, n)?;
+    Ok(Done::Recalled(body))
 }
 
 // Takes the oldest error out and prints its line.
-fn ask(queue: Queue, out: &mut [u8]) -> Obeyed
-    ensures { (staging : List ℕ) → (result.queue, done_of result.done, staging, out.new) ≡ handed (answered (queue_in queue) staging out.old) }
+fn ask(queue: &mut Queue, out: &mut [u8]) -> Done
+    ensures { (staging : List ℕ) → left_by (Ok result) queue.new staging out.new ≡ answered (queue_in queue.old) staging out.old }
 {
     let taken = queue.take();
-    let left = taken.queue;
-    Obeyed {
-        queue: left,
-        done: Done::Printed(errors::put_line(out, taken.error)),
+    *queue = taken.queue;
+    Done::Printed(errors::put_error(out, taken.error))
+}
+
+// Carries out a line, or tells its error.
+fn carry_out(
+    line: &[u8],
+    setup: &[u8],
+    queue: &mut Queue,
+    pool: &[u8],
+    staging: &mut [u8],
+    out: &mut [u8],
+) -> Result<Done, Error>
+    ensures { left_by result queue.new staging.new out.new ≡ obeyed line.now setup.now (queue_in queue.old) pool.now staging.old out.old }
+{
+    match lines::read(line)? {
+        Command::Nothing => Ok(Done::Nothing),
+        Command::Save(n) => save(pool, staging, n, setup),
+        Command::Recall(n) => recall(pool, n),
+        Command::Query => Ok(ask(queue, out)),
     }
 }
 
@@ -92,14 +89,15 @@ pub fn obey(
 ) -> Obeyed
     ensures { (result.queue, done_of result.done, staging.new, out.new) ≡ handed (obeyed line.now setup.now (queue_in queue) pool.now staging.old out.old) }
 {
-    match lines::read(line) {
-        Command::Nothing => Obeyed {
-            queue: queue.judged(),
+    let mut left = queue;
+    match carry_out(line, setup, &mut left, pool, staging, out) {
+        Ok(done) => Obeyed {
+            queue: left.judged(),
+            done,
+        },
+        Err(e) => Obeyed {
+            queue: left.enter_error(e),
             done: Done::Nothing,
         },
-        Command::Save(n) => save(queue, pool, staging, n, setup),
-        Command::Recall(n) => recall(queue, pool, n),
-        Command::Query => ask(queue, out),
-        Command::Fault(e) => fail(queue, e),
     }
 }

@@ -1,17 +1,22 @@
 -- Laws of the queue of errors: it stays fit, and hands the errors out in order (`queue-order`). Assumes nothing.
 use Prim.Native.Nat.{ℕ, zero, suc, ◌-◌, ◌≤◌, ◌<◌}
 use mathlib.Core.Path.{◌≡◌, refl, sym, ap, ◌∙◌, subst}
-use mathlib.Core.Logic.{◌⊎◌, inl, inr}
 use mathlib.Core.Bool.{Bool, true, false, cond, ◌&&◌, ◌||◌, and-false}
 use mathlib.Core.List.{List, [], ◌∷◌, ◌++◌, append-nil}
 use native.Mathlib.Nat.{min-le_left, sub-zero, suc-sub-suc, zero-sub}
 use native.Mathlib.Omega.{arith}
-use lib.ListN.{length, get_or, replicate, take, length-append, length-take}
+use lib.ListN.{length, replicate, take, length-append, length-take}
 use lib.Seq.{append_snoc, length-take-le, take-append-le, take_at, take-nil}
 use lib.Dec.{eqb, leb, ltb}
 use borrow.Author.Tests.{eqb-true, leb-true, le-leb, lt-leb, le-ltb, lt-ltb, ltb-false, ltb-true}
 use Rattle.rules.specs.Scan.{decimal, decimal_to}
 use Rattle.rules.proofs.Bool.{and-join, and_split, split}
+use Rattle.std.specs.List.{list_all}
+use Rattle.std.specs.Prelude.{IfOk, is_ok, Result, Ok, Err}
+use Rattle.std.specs.Result.{result_ok}
+use Rattle.errors.specs.Number.{number_in, number_of}
+use Rattle.errors.specs.declared.Error.{Error}
+use Rattle.errors.specs.declared.Error.TheVariants.{DataType, Execution, MissingParameter, OutOfRange, QueueOverflow, UndefinedHeader}
 use Rattle.errors.specs.Errors.{Queue, QueueOrder, all_errors, asked, behind_oldest, entered, entered_all, fit, is_error, judged, line, oldest, text}
 
 -- ---- one error
@@ -29,27 +34,33 @@ each-error P p q r s t u e =
     at : (k : ℕ) → P k → eqb e k ≡ true → P e
     at k x h = subst P (sym (eqb-true e k h)) x
 
--- the six numbers
-abbrev pub OneOfSix : ℕ → Type 0
-OneOfSix e = (e ≡ 104) ⊎ (e ≡ 109) ⊎ (e ≡ 113) ⊎ (e ≡ 200) ⊎ (e ≡ 222) ⊎ (e ≡ 350)
-
-pub one-error : (e : ℕ) → OneOfSix e → is_error e ≡ true
-unfolding is_error
-one-error e (inl h) = ap is_error h
-one-error e (inr (inl h)) = ap is_error h
-one-error e (inr (inr (inl h))) = ap is_error h
-one-error e (inr (inr (inr (inl h)))) = ap is_error h
-one-error e (inr (inr (inr (inr (inl h))))) = ap is_error h
-one-error e (inr (inr (inr (inr (inr h))))) = ap is_error h
-
-pub none-error : (e : ℕ) → (OneOfSix e → ⊥) → is_error e ≡ false
-none-error e h = split (is_error e) (λ t. absurd (h (each-error OneOfSix (inl refl) (inr (inl refl)) (inr (inr (inl refl))) (inr (inr (inr (inl refl)))) (inr (inr (inr (inr (inl refl))))) (inr (inr (inr (inr (inr refl))))) e t))) (λ t. t)
-
 line-short : (e : ℕ) → is_error e ≡ true → length (line e) ≤ 25
 unfolding line is_error text decimal decimal_to
 line-short = each-error (λ e. length (line e) ≤ 25) (omega arith) (omega arith) (omega arith) (omega arith) (omega arith) (omega arith)
 
+-- the number of one of the six
+pub number-error : (e : Error) → is_error (number_of e) ≡ true
+unfolding is_error
+number-error DataType = refl
+number-error MissingParameter = refl
+number-error UndefinedHeader = refl
+number-error Execution = refl
+number-error OutOfRange = refl
+number-error QueueOverflow = refl
+
+pub number-short : (e : Error) → length (line (number_of e)) ≤ 25
+number-short e = line-short (number_of e) (number-error e)
+
+pub number-known : {E : Type 0} (r : Result Error E) (e : ℕ) → (is_ok r ≡ is_error e) × IfOk r (λ x. number_of x ≡ e) → is_error e ≡ true → number_in (result_ok r) ≡ e
+number-known (Ok x) e h t = h.1
+number-known (Err x) e h t = cc (h.0)
+
 -- ---- fit queues
+
+pub all_errors-list_all : (q : Queue) → all_errors q ≡ list_all is_error q
+unfolding all_errors
+all_errors-list_all [] = refl
+all_errors-list_all (e ∷ q) = rw (all_errors-list_all q)
 
 pub all_cons : (e : ℕ) (q : Queue) → is_error e ≡ true → all_errors q ≡ true → all_errors (e ∷ q) ≡ true
 unfolding all_errors
@@ -68,14 +79,6 @@ unfolding all_errors
 all_take zero q a = refl
 all_take (suc n) [] a = refl
 all_take (suc n) (e ∷ q) a = let s = all_first e q a in all_cons e (take n q) s.0 (all_take n q s.1)
-
--- one that is none of the six
-pub all-bad : (n : ℕ) (l : List ℕ) (i : ℕ) → i < n → i < length l → is_error (get_or l i 0) ≡ false → all_errors (take n l) ≡ false
-unfolding all_errors
-all-bad zero l i h k b = absurd (omega arith)
-all-bad (suc n) [] i h k b = absurd (omega arith)
-all-bad (suc n) (e ∷ l) zero h k b = rw b
-all-bad (suc n) (e ∷ l) (suc i) h k b = rw (all-bad n l i (omega arith) (omega arith) b) (and-false (is_error e))
 
 take-most : (n : ℕ) (l : List ℕ) → length (take n l) ≤ n
 take-most n l = rw (length-take n l) (min-le_left n (length l))
@@ -101,9 +104,9 @@ pub many-judged : (n : ℕ) (places : List ℕ) → 10 < n → judged n places �
 unfolding judged
 many-judged n places h = rw (lt-leb n 10 h)
 
-pub bad-judged : (n : ℕ) (places : List ℕ) (i : ℕ) → i < n → i < length places → is_error (get_or places i 0) ≡ false → judged n places ≡ []
+pub bad-judged : (n : ℕ) (places : List ℕ) → all_errors (take n places) ≡ false → judged n places ≡ []
 unfolding judged
-bad-judged n places i h k b = rw (all-bad n places i h k b, and-false (leb n 10))
+bad-judged n places b = rw (b, and-false (leb n 10))
 
 pub fit-judged : (n : ℕ) (places : List ℕ) → n ≤ length places → fit (take n places) ≡ true → judged n places ≡ take n places
 unfolding judged

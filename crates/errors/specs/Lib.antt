@@ -1,2 +1,3 @@
 pub mod Errors
+pub mod Number
 pub mod Meaning

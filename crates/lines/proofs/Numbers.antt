@@ -1,8 +1,8 @@
 -- Numbers and what follows a header: digits one by one, the number capped, each way out. Assumes nothing.
-use Prim.Native.Nat.{ℕ, ◌+◌, ◌-◌, ◌*◌, ◌≤◌, ◌<◌, min}
-use mathlib.Core.Path.{◌≡◌, refl, ap, ◌∙◌}
+use Prim.Native.Nat.{ℕ, ◌+◌, ◌-◌, ◌*◌, ◌≤◌, ◌<◌}
+use mathlib.Core.Path.{◌≡◌, refl}
 use mathlib.Core.Logic.{◌≢◌}
-use mathlib.Core.Bool.{Bool, true, false, ◌&&◌}
+use mathlib.Core.Bool.{true, false}
 use mathlib.Core.List.{List, [], ◌∷◌}
 use native.Mathlib.Numerals.{add-one}
 use native.Mathlib.Omega.{arith}
@@ -10,67 +10,38 @@ use lib.ListN.{length, drop, drop_of_length-le, get_or}
 use lib.Seq.{drop-cons}
 use borrow.Author.Tests.{eq-eqb, le-ltb, lt-ltb, ne_eqb}
 use Rattle.errors.specs.Errors.{data_out_of_range, data_type_error, missing_parameter, undefined_header}
+use Rattle.errors.specs.Number.{number_of}
+use Rattle.errors.specs.declared.Error.{Error}
+use Rattle.std.specs.Prelude.{Result, Err, Option, Some, None}
+use Rattle.std.specs.Option.{ok_or}
+use Rattle.lines.specs.declared.Command.{Command}
+use Rattle.lines.specs.Meaning.{command_of}
 use Rattle.lines.specs.Line.{Verb, all_digits, asks, blank, fault, is_digit, last_number, numbered, parameter, value, value_from}
-use Rattle.lines.specs.Meaning.{capped}
+use Rattle.std.specs.List.{list_all}
+use Rattle.std.specs.Char.{is_ascii_digit}
+use Rattle.rules.specs.Header.{within}
 
--- ---- All digits: what is left of a text is if and only if the text is.
+-- ---- All digits, as std tests them.
 
-pub record Digits (s : List ℕ) (i : ℕ) : Type 0 where
-  pub le : i ≤ length s
-  pub rest : all_digits (drop i s) ≡ all_digits s
+pub all_digits-list_all : (s : List ℕ) → all_digits s ≡ list_all is_ascii_digit s
+unfolding all_digits is_digit within
+all_digits-list_all [] = refl
+all_digits-list_all (b ∷ s) = rw (all_digits-list_all s)
 
-pub digits-start : (s : List ℕ) → Digits s 0
-digits-start s = record { le = omega arith; rest = refl }
+-- ---- The number, digit by digit: it never falls.
 
-module _ {s : List ℕ} {i : ℕ} {x : Bool} (f : Digits s i) (h : i < length s) (e : x ≡ is_digit (get_or s i 0)) where
-  digits-here : (x && all_digits (drop (i + 1) s)) ≡ all_digits s
-  unfolding all_digits
-  digits-here = rw (e, add-one) (rw (drop-cons s i 0 h) at f.rest)
-
-  pub digits_step : x ≡ true → Digits s (i + 1)
-  digits_step t = record { le = omega arith; rest = rw t at digits-here }
-
-  pub digits-miss : x ≡ false → false ≡ all_digits s
-  digits-miss t = rw t at digits-here
-
-pub digits-end : {s : List ℕ} {i : ℕ} → Digits s i → length s ≤ i → true ≡ all_digits s
-unfolding all_digits
-digits-end {s} f h = rw (drop_of_length-le s h) at f.rest
-
--- ---- The number, capped: what is left of a text behind v gives the whole.
-
-value-above : (s : List ℕ) (v : ℕ) → 10 ≤ v → 10 ≤ value_from v s
+pub value-least : (s : List ℕ) (v : ℕ) → v ≤ value_from v s
 unfolding value_from
-value-above [] v h = h
-value-above (b ∷ s) v h = value-above s (10 * v + (b - 48)) (omega arith)
+value-least [] v = omega arith
+value-least (b ∷ s) v = let h = value-least s (10 * v + (b - 48)) in omega arith
 
-pub record Capping (s : List ℕ) (v i : ℕ) : Type 0 where
-  pub le : i ≤ length s
-  pub small : v ≤ 10
-  pub rest : min (value_from v (drop i s)) 10 ≡ capped s
-
-pub capping-start : (s : List ℕ) → Capping s 0 0
-unfolding capped
-capping-start s = record { le = omega arith; small = omega arith; rest = refl }
-
-module _ {s : List ℕ} {v i d : ℕ} (f : Capping s v i) (h : i < length s) (e : d ≡ get_or s i 0 - 48) where
-  capping-here : min (value_from (10 * v + d) (drop (i + 1) s)) 10 ≡ capped s
-  unfolding value_from
-  capping-here = rw (e, add-one) (rw (drop-cons s i 0 h) at f.rest)
-
-  pub capping-step : 10 * v + d ≤ 10 → Capping s (10 * v + d) (i + 1)
-  capping-step k = record { le = omega arith; small = k; rest = capping-here }
-
-  pub capping-cap : 10 < 10 * v + d → Capping s 10 (i + 1)
-  capping-cap k =
-      let p = value-above (drop (i + 1) s) (10 * v + d) (omega arith) in
-      let q = value-above (drop (i + 1) s) 10 (omega arith) in
-      let r = capping-here in
-      record { le = omega arith; small = omega arith; rest = omega arith }
-
-pub capping-end : {s : List ℕ} {v i : ℕ} → Capping s v i → length s ≤ i → v ≡ capped s
+pub value-step : (s : List ℕ) (v i d : ℕ) → i < length s → d ≡ get_or s i 0 - 48 → value_from v (drop i s) ≡ value_from (10 * v + d) (drop (i + 1) s)
 unfolding value_from
-capping-end {s} {v} f h = let e : min v 10 ≡ capped s = rw (drop_of_length-le s h) at f.rest in omega (arith, f.small)
+value-step s v i d h e = rw (drop-cons s i 0 h, add-one, e)
+
+pub value-end : (s : List ℕ) (v i : ℕ) → length s ≤ i → value_from v (drop i s) ≡ v
+unfolding value_from
+value-end s v i h = rw (drop_of_length-le s h)
 
 -- ---- What follows the header and its blank.
 
@@ -94,16 +65,6 @@ unfolding numbered
 numbered-good v [] z e h = absurd (z refl)
 numbered-good v (d ∷ n) z e h = rw (e, le-ltb last_number (value (d ∷ n)) h)
 
--- By the capped number m.
-module _ {m : ℕ} (v : Verb) (n : List ℕ) (d : all_digits n ≡ true) (e : m ≡ capped n) where
-  pub capped-above : last_number < m → numbered v n ≡ fault data_out_of_range
-  unfolding capped
-  capped-above h = numbered-above v n d (omega arith)
-
-  pub capped-good : length n ≢ 0 → m ≤ last_number → numbered v n ≡ asks v m
-  unfolding capped
-  capped-good z h = let k : value n ≡ m = omega arith in numbered-good v n z d (omega arith) ∙ ap (asks v) k
-
 -- ---- What follows the header.
 
 pub parameter-none : (v : Verb) (s : List ℕ) → length s ≡ 0 → parameter v s ≡ fault missing_parameter
@@ -111,12 +72,16 @@ unfolding parameter
 parameter-none v [] e = refl
 parameter-none v (b ∷ n) e = absurd (omega arith)
 
-pub parameter-other : (v : Verb) (s : List ℕ) → length s ≢ 0 → get_or s 0 0 ≢ blank → parameter v s ≡ fault undefined_header
+pub parameter-other : (v : Verb) {s : List ℕ} (b : ℕ) (n : List ℕ) → s ≡ b ∷ n → b ≢ blank → parameter v s ≡ fault undefined_header
 unfolding parameter
-parameter-other v [] z h = absurd (z refl)
-parameter-other v (b ∷ n) z h = rw (ne_eqb b blank h)
+parameter-other v b n e h = rw (e, ne_eqb b blank h)
 
-pub parameter-blank : (v : Verb) (s : List ℕ) → length s ≢ 0 → get_or s 0 0 ≡ blank → parameter v s ≡ numbered v (drop 1 s)
+pub parameter-blank : (v : Verb) {s : List ℕ} (b : ℕ) (n : List ℕ) → s ≡ b ∷ n → b ≡ blank → parameter v s ≡ numbered v n
 unfolding parameter
-parameter-blank v [] z h = absurd (z refl)
-parameter-blank v (b ∷ n) z h = rw (eq-eqb b blank h)
+parameter-blank v b n e h = rw (e, eq-eqb b blank h)
+
+-- ---- The exit of a `?` behind an `ok_or`.
+
+pub error-given : {X : Type 0} {r : Result Command Error} {y e : Error} (o : Option X) (d : Error) → r ≡ Err y → y ≡ e → ◌≡◌ {A = Result X Error} (Err e) (ok_or o d) → command_of r ≡ fault (number_of d)
+error-given {e = e} (Some x) d h i k = cc
+error-given {e = e} None d h i k = let j : e ≡ d = cc in rw (h, i, j)

@@ -1,18 +1,23 @@
--- Words in either case: their test decides them; they are joined, split, and read byte by byte. Assumes nothing.
-use Prim.Native.Nat.{ℕ, ◌+◌, ◌-◌, ◌≤◌, ◌<◌}
-use mathlib.Core.Path.{◌≡◌, refl, sym, ap}
-use mathlib.Core.Logic.{◌≢◌, ◌⊎◌, inl, inr, ⊎_elim}
+-- Words in either case: their test decides them; they are joined, split, and compared as std compares texts. Assumes nothing.
+use Prim.Native.Nat.{ℕ, ◌+◌, ◌<◌}
+use mathlib.Core.Path.{◌≡◌, refl, sym, ap, ◌∙◌}
+use mathlib.Core.Logic.{◌⊎◌, inl, inr, ⊎_elim}
 use mathlib.Core.Bool.{Bool, true, false, ◌&&◌, ◌||◌}
 use mathlib.Core.List.{List, [], ◌∷◌, ◌++◌}
 use native.Mathlib.Omega.{arith}
-use native.Mathlib.Numerals.{add-one}
-use lib.ListN.{length, take, drop, drop_of_length-le, get_or, length-drop, length-take}
-use lib.Seq.{drop-cons, take-length}
-use lib.Dec.{eqb, leb}
-use borrow.Author.Tests.{eq-eqb, eqb-true, le-leb, lt-leb, ne_eqb}
+use lib.ListN.{length, drop, take, length-take}
+use denote.Ref.{Bor}
+use Rattle.std.specs.Option.{MatchOption}
+use Rattle.std.specs.Bool.{then_some}
+use lib.Dec.{eqb}
+use borrow.Author.Tests.{eq-eqb, eqb-true}
+use Rattle.std.proofs.Common.{not}
+use Rattle.std.specs.Prelude.{IsTrue, ◌↔◌, map}
+use Rattle.std.specs.Char.{is_ascii_lowercase, to_ascii_lowercase}
+use Rattle.std.proofs.lemmas.Bool.Decides.{nat_tests}
 use Rattle.rules.specs.Header.{within}
 use Rattle.rules.proofs.Bool.{and-join, and_split, split}
-use Rattle.lines.specs.Line.{Spells, Stands, begins, is_letter, spells, stands}
+use Rattle.lines.specs.Line.{Spells, Stands, Verb, begins, header, rcl, sav, is_letter, spells, stands}
 
 -- ---- One of two tests.
 
@@ -20,38 +25,20 @@ pub or_split : (a b : Bool) → (a || b) ≡ true → (a ≡ true) ⊎ (b ≡ tr
 or_split true b e = inl e
 or_split false b e = inr e
 
+pub or_assoc : (a b c : Bool) → ((a || b) || c) ≡ (a || (b || c))
+or_assoc true b c = refl
+or_assoc false b c = refl
+
+-- v is what a `||` of the tests a and b comes to: r, which is a, if r is true, else s, which is b
+pub or_then : {v r a : Bool} (b : Bool) → v ≡ r → r ≡ true → r ≡ a → v ≡ (a || b)
+or_then b v h e = v ∙ h ∙ rw (← e, h)
+
+pub or_else : {v r s a b : Bool} → v ≡ s → r ≡ false → r ≡ a → s ≡ b → v ≡ (a || b)
+or_else v h e f = v ∙ f ∙ rw (← e, h)
+
 pub or_right : (a b : Bool) → b ≡ true → (a || b) ≡ true
 or_right true b e = refl
 or_right false b e = e
-
--- ---- A number between two others.
-
-pub within-below : (low n high : ℕ) → n < low → within low n high ≡ false
-unfolding within
-within-below low n high h = rw (lt-leb low n h)
-
-pub within-from : (low n high : ℕ) → low ≤ n → within low n high ≡ leb n high
-unfolding within
-within-from low n high h = rw (le-leb low n h)
-
--- ---- A byte for a character.
-
-module _ (c b : ℕ) where
-  pub stands_same : b ≡ c → true ≡ stands c b
-  unfolding stands
-  stands_same e = rw (eq-eqb b c e)
-
-  pub stands-below : b ≢ c → c < 65 → false ≡ stands c b
-  unfolding stands
-  stands-below n h = rw (ne_eqb b c n, within-below 65 c 90 h)
-
-  pub stands-beyond : b ≢ c → 90 < c → false ≡ stands c b
-  unfolding stands
-  stands-beyond n h = rw (ne_eqb b c n, within-from 65 c 90 (omega arith), lt-leb c 90 h)
-
-  pub stands-letter : b ≢ c → 65 ≤ c → c ≤ 90 → eqb b (c + 32) ≡ stands c b
-  unfolding stands
-  stands-letter n h k = rw (ne_eqb b c n, within-from 65 c 90 h, le-leb c 90 k)
 
 -- ---- The test decides.
 
@@ -117,45 +104,68 @@ spells-mark c [] e s = absurd s
 spells-mark c (b ∷ []) e s = ⊎_elim (λ p. rw p) (λ p. cc) s.0
 spells-mark c (b ∷ d ∷ l) e s = absurd s.1
 
--- ---- Byte by byte: what is left of a word and a part is spelled if and only if they are.
+-- ---- A word with no small letter, as std compares it with a part of a line: by small letters.
 
-pub spells-unequal : (w p : List ℕ) → length p ≢ length w → false ≡ spells w p
-spells-unequal w p n = split (spells w p) (λ t. absurd (n (spells-length w p (spells-true w p t)))) sym
+abbrev pub capital : List ℕ → Bool
+capital [] = true
+capital (c ∷ w) = not (is_ascii_lowercase c) && capital w
 
-pub record Spelling (w p : List ℕ) (i : ℕ) : Type 0 where
-  pub le : i ≤ length w
-  pub equal : length p ≡ length w
-  pub rest : spells (drop i w) (drop i p) ≡ spells w p
+-- a byte that is the character in small letters
+stands-lower : (c b : ℕ) → not (is_ascii_lowercase c) ≡ true → to_ascii_lowercase b ≡ to_ascii_lowercase c → stands c b ≡ true
+unfolding stands within
+stands-lower c b n e = grind (arith, nat_tests)
 
-pub spelling-start : (w p : List ℕ) → length p ≡ length w → Spelling w p 0
-spelling-start w p e = record { le = omega arith; equal = e; rest = refl }
+lower-stands : (c b : ℕ) → not (is_ascii_lowercase c) ≡ true → stands c b ≡ true → to_ascii_lowercase b ≡ to_ascii_lowercase c
+unfolding stands within
+lower-stands c b n e = grind (arith, nat_tests)
 
-module _ {w p : List ℕ} {i : ℕ} {x : Bool} (f : Spelling w p i) (h : i < length w) (e : x ≡ stands (get_or w i 0) (get_or p i 0)) where
-  spelling-here : (x && spells (drop (i + 1) w) (drop (i + 1) p)) ≡ spells w p
-  unfolding spells
-  spelling-here = let k : i < length p = omega (arith, f.equal) in rw (e, add-one) (rw (drop-cons w i 0 h, drop-cons p i 0 k) at f.rest)
-
-  pub spelling-step : x ≡ true → Spelling w p (i + 1)
-  spelling-step t = record { le = omega arith; equal = f.equal; rest = rw t at spelling-here }
-
-  pub spelling-miss : x ≡ false → false ≡ spells w p
-  spelling-miss t = rw t at spelling-here
-
-pub spelling-end : {w p : List ℕ} {i : ℕ} → Spelling w p i → length w ≤ i → true ≡ spells w p
+spells-lower : (w l : List ℕ) → capital w ≡ true → map to_ascii_lowercase l ≡ map to_ascii_lowercase w → spells w l ≡ true
 unfolding spells
-spelling-end {w} {p} {i} f h = let k : length p ≤ i = omega (arith, f.equal) in rw (drop_of_length-le w h, drop_of_length-le p k) at f.rest
+spells-lower [] [] n e = refl
+spells-lower [] (b ∷ l) n e = cc
+spells-lower (c ∷ w) [] n e = cc
+spells-lower (c ∷ w) (b ∷ l) n e =
+    let p = and_split (not (is_ascii_lowercase c)) (capital w) n in
+    and-join (stands c b) (spells w l) (stands-lower c b p.0 cc) (spells-lower w l p.1 cc)
+
+lower-spells : (w l : List ℕ) → capital w ≡ true → spells w l ≡ true → map to_ascii_lowercase l ≡ map to_ascii_lowercase w
+unfolding spells
+lower-spells [] [] n e = refl
+lower-spells [] (b ∷ l) n e = cc
+lower-spells (c ∷ w) [] n e = cc
+lower-spells (c ∷ w) (b ∷ l) n e =
+    let p = and_split (not (is_ascii_lowercase c)) (capital w) n in
+    let q = and_split (stands c b) (spells w l) e in
+    let x = lower-stands c b p.0 q.0 in
+    let y = lower-spells w l p.1 q.1 in
+    cc
+
+-- r is what `eq_ignore_ascii_case` answers
+pub spells-same : (w l : List ℕ) (r : Bool) → capital w ≡ true → (IsTrue r ↔ (map to_ascii_lowercase l ≡ map to_ascii_lowercase w)) → r ≡ spells w l
+spells-same w l true n h = sym (spells-lower w l n (h.0 refl))
+spells-same w l false n h = split (spells w l) (λ t. h.1 (lower-spells w l n t) ∙ sym t) sym
 
 -- ---- A line that begins with a word.
 
-pub begins-short : (w l : List ℕ) → length l < length w → false ≡ begins w l
+pub begins-short : (w l : List ℕ) → length l < length w → begins w l ≡ false
 unfolding begins
-begins-short w l h = spells-unequal w (take (length w) l) (rw (length-take (length w) l) (omega arith))
+begins-short w l h = split (begins w l) (λ t. absurd (omega (arith, length-take (length w) l, spells-length w (take (length w) l) (spells-true w (take (length w) l) t)))) (λ f. f)
 
-pub begins-length : (w l : List ℕ) → begins w l ≡ true → length w ≤ length l
+-- ---- What follows a header, as the code gives it: r is what `eq_ignore_ascii_case` answers of the first four bytes.
+
+pub header-length : (v : Verb) → length (header v) ≡ 4
+header-length sav = refl
+header-length rcl = refl
+
+header-capital : (v : Verb) → capital (header v) ≡ true
+header-capital sav = refl
+header-capital rcl = refl
+
+pub begins-same : (v : Verb) (l : List ℕ) (r : Bool) → (IsTrue r ↔ (map to_ascii_lowercase (take 4 l) ≡ map to_ascii_lowercase (header v))) → r ≡ begins (header v) l
 unfolding begins
-begins-length w l t = let e = spells-length w (take (length w) l) (spells-true w (take (length w) l) t) in omega (arith, rw (length-take (length w) l) at e)
+begins-same v l r h = rw (header-length v) (spells-same (header v) (take 4 l) r (header-capital v) h)
 
--- ---- The rest of a line, as the code cuts it.
-
-pub rest_all : (k : ℕ) (l : List ℕ) → take (length l - k) (drop k l) ≡ drop k l
-rest_all k l = rw (← (length-drop k l)) (take-length (drop k l))
+pub stripped : (v : Verb) (l : List ℕ) (r : Bool) (rest : Bor (List ℕ)) → r ≡ begins (header v) l → rest.now ≡ drop 4 l
+    → MatchOption (then_some r rest) (begins (header v) l ≡ false) (λ x. (begins (header v) l ≡ true) × (x.now ≡ drop 4 l))
+stripped v l true rest e d = (sym e, d)
+stripped v l false rest e d = sym e

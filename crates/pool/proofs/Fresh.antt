@@ -158,9 +158,6 @@ pub record Filling (sh : Shape) (p₀ p : List ℕ) (z : ℕ) : Type 0 where
   pub length-is : length p ≡ pool_size sh
   pub rest : heads_from sh z (sh.zones - z) p ≡ heads_from sh 0 sh.zones p₀
 
-pub filling-start : (sh : Shape) (p : List ℕ) → length p ≡ pool_size sh → Filling sh p p 0
-filling-start sh p l = record { le = omega arith; length-is = l; rest = ap (λ (k : ℕ). heads_from sh 0 k p) {x = sh.zones - 0} {y = sh.zones} (omega arith) }
-
 pub filling_step : {sh : Shape} {p₀ p p₁ p₂ : List ℕ} {head : List ℕ} {z at cells : ℕ} → Filling sh p₀ p z → z < sh.zones → at ≡ zone_at sh z → cells ≡ zone_cells sh
     → head ≡ free_head cells → p₁ ≡ sets p at head → p₂ ≡ sets p₁ (at + 64 * cells) head → Filling sh p₀ p₂ (z + 1)
 unfolding heads_from

@@ -12,10 +12,11 @@ use Rattle.rules.specs.Answer.{conclude_pool}
 use Rattle.rules.specs.Mend.{mend_header, mended}
 use Rattle.rules.proofs.Test.{passed_first}
 use Rattle.layout.specs.declared.Shape.{Shape}
-use Rattle.layout.specs.declared.Opened.TheVariants as Opening
-use Rattle.layout.specs.Meaning.{opened}
+use Rattle.layout.specs.Meaning.{good, opened, refused, shape_of}
 use Rattle.layout.proofs.Opening.{open-passed, open-refused}
-use Rattle.pool.specs.declared.Outcome.TheVariants.{Refused, Taken}
+use Rattle.refusals.specs.declared.Refusal.{Refusal}
+use Rattle.refusals.specs.Number.{number_of}
+use Rattle.std.proofs.Common.{Ok, Err}
 use Rattle.pool.specs.Meaning.{changed}
 
 -- pages of n bytes, as the code takes them: from 0 up to n, and from n up to m
@@ -54,10 +55,10 @@ module _ (p : List ℕ) (n m : ℕ) (e : n ≡ page_size) (f : m ≡ 2 * n) wher
     mended-first q t s = rw (← header_is, t) (s ∙ ap (sets p 0) copy-page)
 
 module _ (p : List ℕ) where
-  pub mend-refused : (n : ℕ) → opened p ≡ Opening.Refused n → changed (Refused n) p ≡ mend_header p
+  pub mend-refused : (x : Refusal) → opened p ≡ refused (number_of x) → changed (Err x) p ≡ mend_header p
   unfolding mend_header conclude_pool
-  mend-refused n e = rw (open-refused p n e)
+  mend-refused x e = rw (open-refused p (number_of x) e)
 
-  pub mend-taken : (s : Shape) (q : List ℕ) → opened p ≡ Opening.Good s → q ≡ mended p → changed Taken q ≡ mend_header p
+  pub mend-taken : (s : Shape) (q : List ℕ) → opened p ≡ good (shape_of s) → q ≡ mended p → changed (Ok tt) q ≡ mend_header p
   unfolding mend_header conclude_pool
-  mend-taken s q e m = rw (passed_first (open_tests p) (open-passed p s e), m)
+  mend-taken s q e m = rw (passed_first (open_tests p) (open-passed p (shape_of s) e), m)

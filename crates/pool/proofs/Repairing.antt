@@ -12,51 +12,51 @@ use Rattle.rules.specs.Seals.{read_tests}
 use Rattle.rules.specs.Repair.{any_above, any_two, conclude_repair, differences, repair, repair_tests, repaired}
 use Rattle.rules.proofs.Test.{Passed, first-left, first-passed, first-right}
 use Rattle.layout.specs.declared.Shape.{Shape}
-use Rattle.layout.specs.declared.Opened.TheVariants as Opening
-use Rattle.layout.specs.Meaning.{answer, shape_of}
+use Rattle.layout.specs.Meaning.{answer, good, refused, shape_of}
 use Rattle.layout.proofs.Range.{bounds}
 use Rattle.layout.proofs.Opening.{answer-refused, open-good}
-use Rattle.pool.specs.declared.Repaired.TheVariants.{Altered, Refused}
+use Rattle.refusals.specs.declared.Refusal.{Refusal}
+use Rattle.refusals.specs.declared.Refusal.TheVariants as R
+use Rattle.refusals.specs.Number.{number_of}
+use Rattle.std.proofs.Common.{Ok, Err}
 use Rattle.pool.specs.Meaning.{repaired_of}
-use Rattle.pool_log.proofs.Opening.{read_none, read_opened, read-shaped}
+use Rattle.pool_log.proofs.Opening.{read_none, read_opened}
 
--- the pool opened for the shape s, and masks that every test passes
-pub record Tested (p ms : List ℕ) (s : Shape) : Type 0 where
-  pub opens : answer (first (read_tests p)) (shape_in p) ≡ Opening.Good s
-  pub masks : length ms ≡ s.zones * s.cols
-  pub above : any_above (shape_of s) ms ≡ false
-  pub two : any_two ms ≡ false
+-- the pool p opened for reading, of the shape s
+abbrev Opens : List ℕ → Shape → Type 0
+Opens p s = answer (first (read_tests p)) (shape_in p) ≡ good (shape_of s)
 
 module _ (p : List ℕ) where
-  pub columns-small : {s : Shape} → answer (first (read_tests p)) (shape_in p) ≡ Opening.Good s → s.zones * s.cols ≤ 16 * 64
-  columns-small {s} e = let g = bounds s (read-shaped p e).range in mul-le-mul g.zones-high g.cols-high
+  pub columns-small : (s : Shape) → s.zones * s.cols ≤ 16 * 64
+  columns-small s = let g = bounds s in mul-le-mul g.zones-high g.cols-high
 
   module _ (ms : List ℕ) where
-    pub repair-refused : (n : ℕ) → answer (first (read_tests p)) (shape_in p) ≡ Opening.Refused n → repaired_of (Refused n) p ≡ repair p ms
+    pub repair-refused : (x : Refusal) → answer (first (read_tests p)) (shape_in p) ≡ refused (number_of x) → repaired_of (Err x) p ≡ repair p ms
     unfolding repair repair_tests conclude_repair
-    repair-refused n e = rw (first-left (read_tests p) _ n (answer-refused (first (read_tests p)) (shape_in p) n e))
+    repair-refused x e = rw (first-left (read_tests p) _ (number_of x) (answer-refused (first (read_tests p)) (shape_in p) (number_of x) e))
 
-    module _ {s : Shape} (e : answer (first (read_tests p)) (shape_in p) ≡ Opening.Good s) where
+    module _ (s : Shape) (e : Opens p s) where
       same : shape_of s ≡ shape_in p
-      same = (open-good p s (read_opened p e)).2
+      same = (open-good p (shape_of s) (read_opened p e)).2
 
       passed : Passed (read_tests p)
       passed = first-passed (read_tests p) (read_none p e)
 
-      pub repair-length : (length ms ≡ s.zones * s.cols → ⊥) → repaired_of (Refused 8) p ≡ repair p ms
+      pub repair-length : (length ms ≡ s.zones * s.cols → ⊥) → repaired_of (Err R.LossList) p ≡ repair p ms
       unfolding repair repair_tests first conclude_repair
       repair-length h = rw (first-right (read_tests p) _ passed, ← same, ne_eqb (length ms) (s.zones * s.cols) h)
 
-      pub repair-above : (x : Bool) → length ms ≡ s.zones * s.cols → x ≡ any_above (shape_of s) ms → x ≡ true → repaired_of (Refused 8) p ≡ repair p ms
-      unfolding repair repair_tests first conclude_repair
-      repair-above x h a t = rw (first-right (read_tests p) _ passed, ← same, eq-eqb (length ms) (s.zones * s.cols) h, ← a, t)
+      module _ {x : Bool} (h : length ms ≡ s.zones * s.cols) (a : x ≡ any_above (shape_of s) ms) where
+        pub repair-above : x ≡ true → repaired_of (Err R.LossList) p ≡ repair p ms
+        unfolding repair repair_tests first conclude_repair
+        repair-above t = rw (first-right (read_tests p) _ passed, ← same, eq-eqb (length ms) (s.zones * s.cols) h, ← a, t)
 
-      pub repair-two : (x y : Bool) → length ms ≡ s.zones * s.cols → x ≡ any_above (shape_of s) ms → x ≡ false → y ≡ any_two ms → y ≡ true
-          → repaired_of (Refused 28) p ≡ repair p ms
-      unfolding repair repair_tests first conclude_repair
-      repair-two x y h a f b t = rw (first-right (read_tests p) _ passed, ← same, eq-eqb (length ms) (s.zones * s.cols) h, ← a, f, ← b, t)
+        module _ {y : Bool} (f : x ≡ false) (b : y ≡ any_two ms) where
+          pub repair-two : y ≡ true → repaired_of (Err R.TwoLost) p ≡ repair p ms
+          unfolding repair repair_tests first conclude_repair
+          repair-two t = rw (first-right (read_tests p) _ passed, ← same, eq-eqb (length ms) (s.zones * s.cols) h, ← a, f, ← b, t)
 
-pub repair-altered : {p ms : List ℕ} {s : Shape} {q : List ℕ} {n : ℕ} → Tested p ms s → q ≡ repaired (shape_of s) ms p → n ≡ differences p q → repaired_of (Altered n) q ≡ repair p ms
-unfolding repair repair_tests first conclude_repair
-repair-altered {p} {ms} {s} t r d =
-    rw (first-right (read_tests p) _ (passed p ms t.opens), ← (same p ms t.opens), eq-eqb (length ms) (s.zones * s.cols) t.masks, t.above, t.two, d, r)
+          pub repair-altered : {q : List ℕ} {n : ℕ} → y ≡ false → q ≡ repaired (shape_of s) ms p → n ≡ differences p q → repaired_of (Ok n) q ≡ repair p ms
+          unfolding repair repair_tests first conclude_repair
+          repair-altered t r d =
+              rw (first-right (read_tests p) _ passed, ← same, eq-eqb (length ms) (s.zones * s.cols) h, ← a, f, ← b, t, d, r)

@@ -41,6 +41,7 @@ module _ (q : Queue) (d : Obey.Done) (st out : List ℕ) (x : Obey.Obeyed) (h : 
   pub handed-fits : DoneFits x.done → DoneFits d
   handed-fits f = subst DoneFits (sym (ap (λ (y : Handed). y.1) h)) f
 
-  pub handed_out : {r : Obeyed} → r ≡ done_out (errors_of q) d → (r, st, out) ≡ obeyed_out x
+  pub handed_out : {e : Errors} {r : Obeyed} → e ≡ errors_of q → r ≡ done_out e d → (r, st, out) ≡ obeyed_out x
   unfolding queue_out
-  handed_out e = ap (λ (z : Obeyed). (z, st, out)) e ∙ ap (λ (y : Handed). (done_out (errors_of y.0) y.1, y.2, y.3)) h
+  handed_out i e =
+      ap (λ (z : Obeyed). (z, st, out)) (e ∙ ap (λ (z : Errors). done_out z d) i) ∙ ap (λ (y : Handed). (done_out (errors_of y.0) y.1, y.2, y.3)) h

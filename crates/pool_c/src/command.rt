@@ -1,5 +1,6 @@
 // The command lines.
 ghost use Rattle.std.specs.Prelude.{◌≡◌};
+ghost use Rattle.errors.specs.Meaning.{queue_in};
 ghost use Rattle.commands.specs.Meaning.{done_of};
 ghost use Rattle.commands.specs.Obey.{obeyed};
 ghost use Rattle.rules.specs.Staging.{unusable};
@@ -8,6 +9,7 @@ ghost use Rattle.pool_c.specs.Meaning.{DoneFits, done_out, errors_in, obeyed_out
 use crate::transactions::{Transaction, handed_out};
 use commands::Done;
 use errors::Queue;
+use record::Record;
 
 // How many errors wait, and which, the oldest first.
 #[repr(C)]
@@ -29,50 +31,63 @@ pub struct Obeyed {
     pub transaction: Transaction,
 }
 
+impl From<Errors> for Queue {
+    ghost from_gives = { λ e q. queue_in q ≡ errors_in e };
+
+    #[tactic(auto, unfolding(errors::specs::Meaning::queue_in))]
+    fn from(e: Errors) -> Queue {
+        let Errors { count, errors } = e;
+        Queue { errors, count }
+    }
+}
+
+impl From<Queue> for Errors {
+    ghost from_gives = { λ q e. e ≡ record { count = q.count; errors = q.errors } };
+
+    fn from(q: Queue) -> Errors {
+        let Queue { errors, count } = q;
+        Errors { count, errors }
+    }
+}
+
 // A transaction that no call takes.
 fn none() -> Transaction
     ensures { result ≡ transaction_out unusable }
 {
-    Transaction {
-        id: 0,
-        count: 0,
-        phase: 1,
-    }
+    handed_out(transaction::Transaction {
+        txn: Record::unusable(),
+    })
 }
 
-// What goes out.
+// What goes out. No From: it has a `requires`.
 fn told(errors: Errors, done: Done) -> Obeyed
     requires { DoneFits (done_of done) }
     ensures { result ≡ done_out errors (done_of done) }
 {
+    let nothing = Obeyed {
+        kind: 0,
+        value: 0,
+        length: 0,
+        errors,
+        transaction: none(),
+    };
     match done {
-        Done::Nothing => Obeyed {
-            kind: 0,
-            value: 0,
-            length: 0,
-            errors,
-            transaction: none(),
-        },
+        Done::Nothing => nothing,
         Done::Saving(t) => Obeyed {
             kind: 1,
-            value: 0,
-            length: 0,
-            errors,
             transaction: handed_out(t),
+            ..nothing
         },
-        Done::Recalled(at, length) => Obeyed {
+        Done::Recalled(body) => Obeyed {
             kind: 2,
-            value: at,
-            length,
-            errors,
-            transaction: none(),
+            value: body.at,
+            length: body.length,
+            ..nothing
         },
         Done::Printed(length) => Obeyed {
             kind: 3,
-            value: 0,
             length,
-            errors,
-            transaction: none(),
+            ..nothing
         },
     }
 }
@@ -89,20 +104,6 @@ pub extern "C" fn pool_command(
 ) -> Obeyed
     ensures { (result, staging.new, out.new) ≡ obeyed_out (obeyed line.now setup.now (errors_in errors) pool.now staging.old out.old) }
 {
-    let given = errors.errors;
-    let queue = Queue {
-        errors: given,
-        count: errors.count,
-    };
-    let obeyed = commands::obey(line, setup, queue, pool, staging, out);
-    let left = obeyed.queue;
-    let waiting = left.errors;
-    let done = obeyed.done;
-    told(
-        Errors {
-            count: left.count,
-            errors: waiting,
-        },
-        done,
-    )
+    let obeyed = commands::obey(line, setup, Queue::from(errors), pool, staging, out);
+    told(Errors::from(obeyed.queue), obeyed.done)
 }

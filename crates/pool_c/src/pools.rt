@@ -6,12 +6,11 @@ ghost use Rattle.rules.specs.Look.{look as looked};
 ghost use Rattle.rules.specs.Mend.{mend_header};
 ghost use Rattle.rules.specs.Repair.{repair as repair_call};
 ghost use Rattle.rules.specs.Scrub.{scrub as scrubbed};
-ghost use Rattle.answers.specs.Meaning.{value_of};
 ghost use Rattle.zones.specs.Body.{look_of};
-ghost use Rattle.pool.specs.Meaning.{answer_of};
-ghost use Rattle.pool_c.specs.Meaning.{changed_out, counts_out, part_out, repaired_out};
+ghost use Rattle.pool.specs.Meaning.{repair_of, scrub_of};
+ghost use Rattle.pool_c.specs.Meaning.{changed_out, counts_out, part_out, repair_out, repaired_out};
 
-use pool::{Outcome, Scrubbed};
+use refusals::Refusal;
 use zones::Body;
 
 // How many bytes repair altered; or the refusal, and 0.
@@ -42,13 +41,62 @@ pub struct Counts {
     pub columns: usize,
 }
 
-// The refusal's number, or 0.
-fn refusal(outcome: Outcome) -> usize
-    ensures { result ≡ value_of (answer_of outcome) }
-{
-    match outcome {
-        Outcome::Taken => 0,
-        Outcome::Refused(n) => n as usize,
+impl From<Result<usize, Refusal>> for Repaired {
+    ghost from_gives = { λ r out. out ≡ repair_out (repair_of r) };
+
+    fn from(r: Result<usize, Refusal>) -> Repaired {
+        match r {
+            Ok(altered) => Repaired {
+                refusal: 0,
+                altered,
+            },
+            Err(refusal) => Repaired {
+                refusal: usize::from(refusal.number()),
+                altered: 0,
+            },
+        }
+    }
+}
+
+impl From<Result<Body, Refusal>> for Part {
+    ghost from_gives = { λ r out. out ≡ part_out (look_of r) };
+
+    fn from(r: Result<Body, Refusal>) -> Part {
+        match r {
+            Ok(body) => Part {
+                refusal: 0,
+                offset: body.at,
+                length: body.length,
+            },
+            Err(refusal) => Part {
+                refusal: usize::from(refusal.number()),
+                offset: 0,
+                length: 0,
+            },
+        }
+    }
+}
+
+impl From<Result<scrub::Counts, Refusal>> for Counts {
+    ghost from_gives = { λ r out. out ≡ counts_out (scrub_of r) };
+
+    fn from(r: Result<scrub::Counts, Refusal>) -> Counts {
+        match r {
+            Ok(counts) => Counts {
+                refusal: 0,
+                objects: counts.objects,
+                damaged: counts.damaged,
+                broken: counts.broken,
+                columns: counts.columns,
+            },
+            Err(refusal) => Counts {
+                refusal: usize::from(refusal.number()),
+                objects: 0,
+                damaged: 0,
+                broken: 0,
+                columns: 0,
+            },
+        }
     }
 }
 
@@ -63,7 +111,7 @@ pub extern "C" fn pool_format(
 ) -> usize
     ensures { (result, pool.new) ≡ changed_out (formatted pool.old rows cols zones id) }
 {
-    refusal(pool::format(pool, rows, cols, zones, id))
+    usize::from(refusals::number_or_0(pool::format(pool, rows, cols, zones, id)))
 }
 
 // Copies the valid header over an invalid one.
@@ -71,7 +119,7 @@ pub extern "C" fn pool_format(
 pub extern "C" fn pool_mend(pool: &mut [u8]) -> usize
     ensures { (result, pool.new) ≡ changed_out (mend_header pool.old) }
 {
-    refusal(pool::mend(pool))
+    usize::from(refusals::number_or_0(pool::mend(pool)))
 }
 
 // Rebuilds the lost pages.
@@ -79,34 +127,7 @@ pub extern "C" fn pool_mend(pool: &mut [u8]) -> usize
 pub extern "C" fn pool_repair(pool: &mut [u8], lost: &[u16]) -> Repaired
     ensures { (result, pool.new) ≡ repaired_out (repair_call pool.old lost.now) }
 {
-    match pool::repair(pool, lost) {
-        pool::Repaired::Refused(n) => Repaired {
-            refusal: n as usize,
-            altered: 0,
-        },
-        pool::Repaired::Altered(altered) => Repaired {
-            refusal: 0,
-            altered,
-        },
-    }
-}
-
-// The part that goes out for a body.
-pub fn part_of(body: Body) -> Part
-    ensures { result ≡ part_out (look_of body) }
-{
-    match body {
-        Body::Refused(n) => Part {
-            refusal: n as usize,
-            offset: 0,
-            length: 0,
-        },
-        Body::At(offset, length) => Part {
-            refusal: 0,
-            offset,
-            length,
-        },
-    }
+    Repaired::from(pool::repair(pool, lost))
 }
 
 // Where the body of the object at this address lies.
@@ -114,7 +135,7 @@ pub fn part_of(body: Body) -> Part
 pub extern "C" fn pool_look(pool: &[u8], address: usize) -> Part
     ensures { result ≡ part_out (looked pool.now address) }
 {
-    part_of(pool::look_for(pool, address))
+    Part::from(pool::look_for(pool, address))
 }
 
 // Judges every object, zone and column.
@@ -122,22 +143,7 @@ pub extern "C" fn pool_look(pool: &[u8], address: usize) -> Part
 pub extern "C" fn pool_scrub(pool: &[u8]) -> Counts
     ensures { result ≡ counts_out (scrubbed pool.now) }
 {
-    match pool::scrub(pool) {
-        Scrubbed::Refused(n) => Counts {
-            refusal: n as usize,
-            objects: 0,
-            damaged: 0,
-            broken: 0,
-            columns: 0,
-        },
-        Scrubbed::Counts(objects, damaged, broken, columns) => Counts {
-            refusal: 0,
-            objects,
-            damaged,
-            broken,
-            columns,
-        },
-    }
+    Counts::from(pool::scrub(pool))
 }
 
 // The check of these bytes.

@@ -6,7 +6,7 @@ ghost use Rattle.recovery.specs.Meaning.{progress_of, recovery_of, remedy_of};
 ghost use Rattle.pool_c.specs.Meaning.{Fits64, progress_in, progress_out, recovery_after_out, recovery_in, recovery_reply_out, work_in, work_out};
 
 use answers::{kind, value};
-use recovery::{Progress, Remedy};
+use recovery::{Log, Progress, Remedy};
 
 // The id of its pool. What is to be done: 0 nothing, 1 clear both seals, 2 neither log is valid, 2n + 3 replay log A with n entries, 2n + 4 log B; and the phase:
 // 0 finished, k + 1 after k steps.
@@ -27,27 +27,20 @@ pub struct RecoveryReply {
     pub recovery: Recovery,
 }
 
-// The remedy that a number stands for.
+// The remedy that a number stands for. No From: both types are of other crates.
 fn work_in(n: usize) -> Remedy
     ensures { remedy_of result ≡ work_in n }
 {
-    if n == 0 {
-        return Remedy::Nothing;
+    match n {
+        0 => Remedy::Nothing,
+        1 => Remedy::Clear,
+        2 => Remedy::Neither,
+        _ if n % 2 == 1 => Remedy::Replay(Log::A, (n - 3) / 2),
+        _ => Remedy::Replay(Log::B, (n - 4) / 2),
     }
-    if n == 1 {
-        return Remedy::Clear;
-    }
-    if n == 2 {
-        return Remedy::Neither;
-    }
-    let m = n - 3;
-    if m % 2 == 0 {
-        return Remedy::ReplayA(m / 2);
-    }
-    Remedy::ReplayB(m / 2)
 }
 
-// The number of a remedy.
+// The number of a remedy. No From: it has a `requires`.
 fn work_out(work: Remedy) -> usize
     requires { Fits64 (work_out (remedy_of work)) }
     ensures { result ≡ work_out (remedy_of work) }
@@ -56,22 +49,23 @@ fn work_out(work: Remedy) -> usize
         Remedy::Nothing => 0,
         Remedy::Clear => 1,
         Remedy::Neither => 2,
-        Remedy::ReplayA(n) => 2 * n + 3,
-        Remedy::ReplayB(n) => 2 * n + 4,
+        Remedy::Replay(Log::A, n) => 2 * n + 3,
+        Remedy::Replay(Log::B, n) => 2 * n + 4,
     }
 }
 
-// The phase that a number stands for.
+// The phase that a number stands for. No From: both types are of other crates. As `phase_in` and `phase_out` in all, by other numbers: include/pool.h has
+// them so.
 fn progress_in(n: usize) -> Progress
     ensures { progress_of result ≡ progress_in n }
 {
-    if n == 0 {
-        return Progress::Finished;
+    match n {
+        0 => Progress::Finished,
+        _ => Progress::Recovering(n - 1),
     }
-    Progress::Recovering(n - 1)
 }
 
-// The number of a phase.
+// The number of a phase. No From: it has a `requires`.
 fn progress_out(phase: Progress) -> usize
     requires { Fits64 (progress_out (progress_of phase)) }
     ensures { result ≡ progress_out (progress_of phase) }
@@ -83,34 +77,30 @@ fn progress_out(phase: Progress) -> usize
 }
 
 // The recovery that goes in.
-fn decoded(r: Recovery) -> recovery::Recovery
-    ensures { recovery_of result ≡ recovery_in r }
-{
-    let work = work_in(r.work);
-    let phase = progress_in(r.phase);
-    recovery::Recovery {
-        id: r.id,
-        work,
-        phase,
+impl From<Recovery> for recovery::Recovery {
+    ghost from_gives = { λ r d. recovery_of d ≡ recovery_in r };
+
+    fn from(r: Recovery) -> recovery::Recovery {
+        recovery::Recovery {
+            id: r.id,
+            work: work_in(r.work),
+            phase: progress_in(r.phase),
+        }
     }
 }
 
-// The reply that goes out.
+// The reply that goes out. No From: it has a `requires`.
 fn encoded(r: recovery::Reply) -> RecoveryReply
     requires { Fits64 (work_out (remedy_of r.recovery.work)) × Fits64 (progress_out (progress_of r.recovery.phase)) }
     ensures { result ≡ recovery_reply_out (answer_of r.answer) (recovery_of r.recovery) }
 {
-    let answer = r.answer;
-    let handed = r.recovery;
-    let work = handed.work;
-    let phase = handed.phase;
     RecoveryReply {
-        kind: kind(answer),
-        value: value(answer),
+        kind: kind(r.answer),
+        value: value(r.answer),
         recovery: Recovery {
-            id: handed.id,
-            work: work_out(work),
-            phase: progress_out(phase),
+            id: r.recovery.id,
+            work: work_out(r.recovery.work),
+            phase: progress_out(r.recovery.phase),
         },
     }
 }
@@ -128,7 +118,7 @@ pub extern "C" fn pool_recover(pool: &[u8]) -> RecoveryReply
 pub extern "C" fn pool_recover_step(recovery: Recovery, pool: &mut [u8]) -> RecoveryReply
     ensures { (result, pool.new) ≡ recovery_after_out (recovery_step pool.old (recovery_in recovery)) }
 {
-    encoded(decoded(recovery).step(pool))
+    encoded(recovery::Recovery::from(recovery).step(pool))
 }
 
 // Makes all steps up to the recovery's next barrier.
@@ -136,5 +126,5 @@ pub extern "C" fn pool_recover_step(recovery: Recovery, pool: &mut [u8]) -> Reco
 pub extern "C" fn pool_recover_advance(recovery: Recovery, pool: &mut [u8]) -> RecoveryReply
     ensures { (result, pool.new) ≡ recovery_after_out (recovery_on pool.old (recovery_in recovery)) }
 {
-    encoded(decoded(recovery).advance(pool))
+    encoded(recovery::Recovery::from(recovery).advance(pool))
 }

@@ -29,20 +29,18 @@ pub struct Reply {
     pub transaction: Transaction,
 }
 
-// The phase that a number stands for.
+// The phase that a number stands for. No From: both types are of other crates.
 fn phase_in(n: usize) -> Phase
     ensures { phase_of result ≡ phase_in n }
 {
-    if n == 0 {
-        return Phase::Open;
+    match n {
+        0 => Phase::Open,
+        1 => Phase::Closed,
+        _ => Phase::Committing(n - 2),
     }
-    if n == 1 {
-        return Phase::Closed;
-    }
-    Phase::Committing(n - 2)
 }
 
-// The number of a phase.
+// The number of a phase. No From: it has a `requires`.
 fn phase_out(phase: Phase) -> usize
     requires { Fits64 (phase_out (phase_of phase)) }
     ensures { result ≡ phase_out (phase_of phase) }
@@ -55,43 +53,41 @@ fn phase_out(phase: Phase) -> usize
 }
 
 // The transaction that goes in.
-fn decoded(t: Transaction) -> transaction::Transaction
-    ensures { transaction_of result ≡ transaction_in t }
-{
-    let phase = phase_in(t.phase);
-    let txn = Record {
-        id: t.id,
-        count: t.count,
-        phase,
-    };
-    transaction::Transaction { txn }
+impl From<Transaction> for transaction::Transaction {
+    ghost from_gives = { λ t d. transaction_of d ≡ transaction_in t };
+
+    fn from(t: Transaction) -> transaction::Transaction {
+        transaction::Transaction {
+            txn: Record {
+                id: t.id,
+                count: t.count,
+                phase: phase_in(t.phase),
+            },
+        }
+    }
 }
 
-// The transaction that goes out.
+// The transaction that goes out. No From: it has a `requires`.
 pub(crate) fn handed_out(t: transaction::Transaction) -> Transaction
     requires { Fits64 (phase_out (phase_of t.txn.phase)) }
     ensures { result ≡ transaction_out (transaction_of t) }
 {
-    let txn = t.txn;
-    let phase = txn.phase;
     Transaction {
-        id: txn.id,
-        count: txn.count,
-        phase: phase_out(phase),
+        id: t.txn.id,
+        count: t.txn.count,
+        phase: phase_out(t.txn.phase),
     }
 }
 
-// The reply that goes out.
+// The reply that goes out. No From: it has a `requires`.
 pub(crate) fn encoded(r: transaction::Reply) -> Reply
     requires { Fits64 (phase_out (phase_of r.transaction.txn.phase)) }
     ensures { result ≡ reply_out (answer_of r.answer) (transaction_of r.transaction) }
 {
-    let answer = r.answer;
-    let transaction = r.transaction;
     Reply {
-        kind: kind(answer),
-        value: value(answer),
-        transaction: handed_out(transaction),
+        kind: kind(r.answer),
+        value: value(r.answer),
+        transaction: handed_out(r.transaction),
     }
 }
 
@@ -114,7 +110,7 @@ pub extern "C" fn pool_allocate(
 ) -> Reply
     ensures { (result, pool.now, staging.new) ≡ after_out (call (given_in transaction pool.now staging.old) (Allocate tag body.now)) }
 {
-    encoded(decoded(transaction).allocate(pool, staging, tag, body))
+    encoded(transaction::Transaction::from(transaction).allocate(pool, staging, tag, body))
 }
 
 // Writes bytes over the body of the object at this address, from its byte `at` on.
@@ -129,7 +125,7 @@ pub extern "C" fn pool_write(
 ) -> Reply
     ensures { (result, pool.now, staging.new) ≡ after_out (call (given_in transaction pool.now staging.old) (Write address at bytes.now)) }
 {
-    encoded(decoded(transaction).write(pool, staging, address, at, bytes))
+    encoded(transaction::Transaction::from(transaction).write(pool, staging, address, at, bytes))
 }
 
 // Frees the object at this address.
@@ -142,7 +138,7 @@ pub extern "C" fn pool_free(
 ) -> Reply
     ensures { (result, pool.now, staging.new) ≡ after_out (call (given_in transaction pool.now staging.old) (release address)) }
 {
-    encoded(decoded(transaction).free(pool, staging, address))
+    encoded(transaction::Transaction::from(transaction).free(pool, staging, address))
 }
 
 // Starts the commit.
@@ -150,7 +146,7 @@ pub extern "C" fn pool_free(
 pub extern "C" fn pool_commit(transaction: Transaction, pool: &[u8], staging: &[u8]) -> Reply
     ensures { (result, pool.now, staging.now) ≡ after_out (commit_start (given_in transaction pool.now staging.now)) }
 {
-    encoded(decoded(transaction).commit(pool, staging))
+    encoded(transaction::Transaction::from(transaction).commit(pool, staging))
 }
 
 // Makes the commit's next step.
@@ -162,7 +158,7 @@ pub extern "C" fn pool_commit_step(
 ) -> Reply
     ensures { (result, pool.new, staging.now) ≡ after_out (commit_step (given_in transaction pool.old staging.now)) }
 {
-    encoded(decoded(transaction).step(pool, staging))
+    encoded(transaction::Transaction::from(transaction).step(pool, staging))
 }
 
 // Makes the commit's steps up to and with the next barrier.
@@ -174,5 +170,5 @@ pub extern "C" fn pool_commit_advance(
 ) -> Reply
     ensures { (result, pool.new, staging.now) ≡ after_out (commit_on (given_in transaction pool.old staging.now)) }
 {
-    encoded(decoded(transaction).advance(pool, staging))
+    encoded(transaction::Transaction::from(transaction).advance(pool, staging))
 }

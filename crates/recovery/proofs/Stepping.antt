@@ -3,7 +3,7 @@
 use Prim.Native.Nat.{ℕ, suc, ◌+◌, ◌*◌, ◌<◌, ◌≤◌}
 use mathlib.Core.Path.{◌≡◌, refl, sym, ap, ◌∙◌}
 use mathlib.Core.Bool.{Bool, true, false, not}
-use mathlib.Core.Option.{none, some}
+use mathlib.Core.Option.{Option, none, some}
 use mathlib.Core.List.{List, []}
 use native.Mathlib.Numerals.{add-one}
 use native.Mathlib.Omega.{arith}
@@ -16,7 +16,7 @@ use Rattle.rules.specs.Test.{first}
 use Rattle.rules.specs.Header.{id_in, open_tests, shape_in}
 use Rattle.rules.specs.Answer.{refused}
 use Rattle.rules.proofs.Bool.{split}
-use Rattle.rules.proofs.Test.{first-left, first-right}
+use Rattle.rules.proofs.Test.{first-left, first-passed, first-right}
 use Rattle.powercut.specs.Log.{Log, count_in, log_at, valid}
 use Rattle.powercut.specs.Steps.{Remedy, Step, barrier, clear, neither, nothing, recovery_steps, replay, step_pool}
 use Rattle.powercut.specs.Commit.{made_answer, step_answer}
@@ -24,17 +24,15 @@ use Rattle.powercut.specs.Recovery as Paper
 use Rattle.powercut.specs.Advance.{recovery_barrier, recovery_made}
 use Rattle.powercut.proofs.StepCount.{clear-count, recovery-few, replay-count}
 use Rattle.powercut.proofs.Logs.{judged-kept}
-use Rattle.powercut.proofs.RecoveryOn.{recovery-advances, recovery-on}
+use Rattle.powercut.proofs.RecoveryOn.{recovery-on}
 use Rattle.powercut.proofs.Answers.{Possible, recovery-possible}
 use Rattle.words.specs.Loaded.{Loaded}
 use Rattle.layout.specs.declared.Shape.{Shape}
-use Rattle.layout.specs.declared.Opened.TheVariants as Opening
-use Rattle.layout.specs.Meaning.{InRange, Shaped, opened, shape_of}
+use Rattle.layout.specs.Meaning.{Shaped, good, opened, refused as unopened, shape_of}
 use Rattle.layout.proofs.Range.{shape-good}
-use Rattle.layout.proofs.Opening.{open-good, open-passed, open-refused}
-use Rattle.pool_log.specs.Places.{LogAt}
+use Rattle.layout.proofs.Opening.{open-good, open-passed, open-refused, shaped-room}
 use Rattle.pool_log.proofs.Targets.{loaded_word}
-use Rattle.pool_log.proofs.Places.{log-end, log-room}
+use Rattle.pool_log.proofs.Places.{log-end}
 use Rattle.answers.specs.Meaning as Answers
 use Rattle.actions.specs.declared.Action.{Action}
 use Rattle.actions.specs.declared.Action.TheVariants.{Barrier}
@@ -47,10 +45,8 @@ use Rattle.recovery.specs.declared.Progress.{Progress}
 use Rattle.recovery.specs.declared.Progress.TheVariants.{Finished, Recovering}
 use Rattle.recovery.specs.declared.Recovery.{Recovery}
 use Rattle.recovery.specs.declared.Reply.{Reply}
-use Rattle.recovery.specs.declared.Found.{Found}
-use Rattle.recovery.specs.declared.Found.TheVariants.{At, Refused}
 use Rattle.recovery.specs.Meaning.{after_of, progress_of, recovery_of, remedy_of}
-use Rattle.recovery.specs.Advanced.{FoundIs, advanced, impossible_at, leaves, lost_at, replied, step_count, stepped, work_tests}
+use Rattle.recovery.specs.Advanced.{impossible_at, lost_at, replied, step_count, work_tests}
 
 -- ---- the log, while data or parity is stored
 
@@ -131,15 +127,15 @@ module _ (s : Shape) (p : List ℕ) (k : ℕ) (w : Remedy) (h : impossible_at (s
     pub replay-inside : k < 2 * n + 5
     replay-inside = let m = possible.place in let c = replay-count (shape_of s) p l n in let d = ap (λ (v : Remedy). length (recovery_steps (shape_of s) p v)) e in omega arith
 
-    pub replay-ready : Shaped p (shape_of s) → LogAt (shape_of s) b → Steps.Ready (shape_of s) p p (b + 16) n k
+    pub replay-ready : Shaped p (shape_of s) → Steps.Ready (shape_of s) p p (b + 16) n k
     unfolding Paper.log_lost
-    replay-ready g a =
-        ready-log (shape_of s) p g.size b n k (log-room s p g b a) replay-few
+    replay-ready g =
+        ready-log (shape_of s) p g.size b n k (omega (arith, q, log-end (shape_of s) (shape-good s) l, shaped-room p s g)) replay-few
         (λ i. rw q (judged-kept k (2 * n + 2) (valid (shape_of s) p (log_at (shape_of s) l)) (count_in (word p (log_at (shape_of s) l))) n (rw e at possible.log) (omega arith)))
 
     -- its entries lie before the zones
-    pub replay-low : InRange (shape_of s) → b + 16 + 16 * n ≤ zones_at (shape_of s)
-    replay-low r = omega (arith, q, replay-few, log-end (shape_of s) (shape-good s r) l)
+    pub replay-low : b + 16 + 16 * n ≤ zones_at (shape_of s)
+    replay-low = omega (arith, q, replay-few, log-end (shape_of s) (shape-good s) l)
 
     pub replay-action : (m : ℕ) (a : Action) → Steps.Computed (Steps.redo_action (shape_of s) p p (b + 16) n k) m a → Steps.Computed (Steps.action_of (shape_of s) p (get_or (recovery_steps (shape_of s) p w) k barrier)) m a
     replay-action m a c = record {
@@ -161,89 +157,90 @@ module _ (s : Shape) (p : List ℕ) (k m : ℕ) (w : Remedy) where
 -- ---- what the record allows
 
 module _ (s : Shape) (p : List ℕ) (v : Recovery) where
+  abbrev refusal : Option ℕ
+  refusal = first (work_tests (shape_of s) p (recovery_of v))
+
   module _ (x : Bool) (e : x ≡ Paper.impossible_recovery (shape_of s) p (remedy_of v.work) (progress_of v.phase)) where
-    pub found-impossible : x ≡ true → first (work_tests (shape_of s) p (recovery_of v)) ≡ some 10
+    pub judged-impossible : x ≡ true → some 10 ≡ refusal
     unfolding work_tests first
-    found-impossible h = rw (← e, h)
+    judged-impossible h = rw (← e, h)
 
     -- i: the pool's id
     module _ (h : x ≡ false) (i : ℕ) (d : i ≡ id_in p) where
-      pub found-other : (v.id ≡ i → ⊥) → first (work_tests (shape_of s) p (recovery_of v)) ≡ some 11
+      pub judged-other : (v.id ≡ i → ⊥) → some 11 ≡ refusal
       unfolding work_tests first
-      found-other f = rw (← e, h, ← d, ne_eqb v.id i f)
+      judged-other f = rw (← e, h, ← d, ne_eqb v.id i f)
 
       module _ (f : v.id ≡ i) where
-        pub found-finished : v.phase ≡ Finished → first (work_tests (shape_of s) p (recovery_of v)) ≡ some 29
+        pub judged-finished : v.phase ≡ Finished → some 29 ≡ refusal
         unfolding work_tests first Paper.is_recovering
-        found-finished g = rw (← e, h, ← d, eq-eqb v.id i f, g)
+        judged-finished g = rw (← e, h, ← d, eq-eqb v.id i f, g)
 
-        pub found_at : (k : ℕ) → v.phase ≡ Recovering k → FoundIs (shape_of s) p (recovery_of v) (At k)
-        found_at k g = (ap progress_of g, rw g at (sym e ∙ h), f ∙ d)
+        pub judged-on : (k : ℕ) → v.phase ≡ Recovering k → none ≡ refusal
+        unfolding work_tests first Paper.is_recovering
+        judged-on k g = rw (← e, h, ← d, eq-eqb v.id i f, g)
 
-  pub refused-found : {x : Found} {n : ℕ} → FoundIs (shape_of s) p (recovery_of v) x → x ≡ Refused n → first (work_tests (shape_of s) p (recovery_of v)) ≡ some n
-  refused-found h e = rw e at h
+  -- not refused, with k steps made
+  module _ (j : none ≡ refusal) {k : ℕ} (f : progress_of v.phase ≡ Paper.recovering k) where
+    pub on-possible : impossible_at (shape_of s) p (remedy_of v.work) k ≡ false
+    unfolding work_tests
+    on-possible = ap (Paper.impossible_recovery (shape_of s) p (remedy_of v.work)) (sym f) ∙ (first-passed (work_tests (shape_of s) p (recovery_of v)) (sym j)).0
 
-  pub at-found : {x : Found} {k : ℕ} → FoundIs (shape_of s) p (recovery_of v) x → x ≡ At k → FoundIs (shape_of s) p (recovery_of v) (At k)
-  at-found h e = rw e at h
+-- the same of the pool as it was opened
+pub judged_same : (s : Shape) {p q : List ℕ} (v : Recovery) → q ≡ p → {o : Option ℕ} → o ≡ refusal s q v → o ≡ refusal s p v
+judged_same s v b e = rw b at e
 
-  -- ---- the call
+-- ---- a call: refused by the pool or by the record
 
-  conclude-refused : (n : ℕ) (x : Paper.RecoveryAfter) → first (work_tests (shape_of s) p (recovery_of v)) ≡ some n
-      → record { answer = refused n; pool = p; recovery = recovery_of v } ≡ Paper.conclude_recovery p (recovery_of v) (first (work_tests (shape_of s) p (recovery_of v))) x
-  unfolding Paper.conclude_recovery
-  conclude-refused n x e = rw e
-
-  pub step-refusal : (n : ℕ) → first (work_tests (shape_of s) p (recovery_of v)) ≡ some n → record { answer = refused n; pool = p; recovery = recovery_of v } ≡ stepped (shape_of s) p (recovery_of v)
-  unfolding stepped
-  step-refusal n e = conclude-refused n _ e
-
-  pub advance-refusal : (n : ℕ) → first (work_tests (shape_of s) p (recovery_of v)) ≡ some n → record { answer = refused n; pool = p; recovery = recovery_of v } ≡ advanced (shape_of s) p (recovery_of v)
-  unfolding advanced
-  advance-refusal n e = conclude-refused n _ e
-
-  -- it goes on from k steps made
-  module _ (k : ℕ) (g : FoundIs (shape_of s) p (recovery_of v) (At k)) where
-    none-refused : first (work_tests (shape_of s) p (recovery_of v)) ≡ none
-    unfolding work_tests first Paper.is_recovering
-    none-refused = rw (g.0, g.1, eq-eqb v.id (id_in p) g.2)
-
-    replied-leaves : (q : List ℕ) (x : Step) (a : Action) (j : ℕ) → Answers.answer_of (Steps.told_of (suc j) a) ≡ made_answer (suc j) x
-        → after_of (replied v a (suc j) (step_count (remedy_of v.work))) q ≡ leaves (recovery_of v) (recovery_steps (shape_of s) p (remedy_of v.work)) j x q
-    unfolding replied step_answer Paper.next_progress
-    replied-leaves q x a j e =
-        rw (count-is s p k (remedy_of v.work) g.1) (split (eqb (suc j) (step_count (remedy_of v.work))) (λ h. rw h) (λ h. rw (h, e)))
-
-    pub step-made : (a : Action) (q : List ℕ) (r : Reply) → Steps.Computed (Steps.action_of (shape_of s) p (get_or (recovery_steps (shape_of s) p (remedy_of v.work)) k barrier)) (length p) a → q ≡ Steps.applied a p
-        → r ≡ replied v a (k + 1) (step_count (remedy_of v.work)) → after_of r q ≡ stepped (shape_of s) p (recovery_of v)
-    unfolding stepped Paper.conclude_recovery Paper.done_steps
-    step-made a q r c f e =
-        let x : Step = get_or (recovery_steps (shape_of s) p (remedy_of v.work)) k barrier in
-        rw (none-refused, g.0, e, f, add-one k, computed-pool (shape_of s) p x _ a (length p) c refl)
-        (replied-leaves (step_pool (shape_of s) x p) x a k (told-answer (suc k) a ∙ computed-answer (shape_of s) p x _ a (length p) (suc k) c refl))
-
-    pub advance-made : (q : List ℕ) (m j : ℕ) (r : Reply) → PartMade (shape_of s) (recovery_steps (shape_of s) p (remedy_of v.work)) k (recovery_barrier (remedy_of v.work) k) p q m
-        → r ≡ replied v Barrier j (step_count (remedy_of v.work)) → j ≡ m → after_of r q ≡ advanced (shape_of s) p (recovery_of v)
-    unfolding advanced Paper.conclude_recovery Paper.done_steps made_answer
-    advance-made q m j r c e i = rw (none-refused, g.0, e, i, c.number, c.bytes) (replied-leaves _ barrier Barrier (recovery_barrier (remedy_of v.work) k) refl)
-
--- ---- a call, where the pool opens
-
-module _ (p : List ℕ) (r : Paper.Recovery) where
-  tests-are : (s : Shape) → opened p ≡ Opening.Good s → first (Paper.recovery_tests p r) ≡ first (work_tests (shape_of s) p r)
+module _ (p : List ℕ) (v : Recovery) where
+  pub pool-refused : (n : ℕ) → opened p ≡ unopened n → first (Paper.recovery_tests p (recovery_of v)) ≡ some n
   unfolding Paper.recovery_tests work_tests
-  tests-are s e = first-right (open_tests p) _ (open-passed p s e) ∙ rw (open-good p s e).2
+  pool-refused n e = first-left (open_tests p) (work_tests (shape_in p) p (recovery_of v)) n (open-refused p n e)
 
-  pub step-refused : (n : ℕ) → opened p ≡ Opening.Refused n → record { answer = refused n; pool = p; recovery = r } ≡ Paper.recovery_step p r
-  unfolding Paper.recovery_step Paper.conclude_recovery Paper.recovery_tests work_tests
-  step-refused n e = rw (first-left (open_tests p) (work_tests (shape_in p) p r) n (open-refused p n e))
+  module _ (s : Shape) (o : opened p ≡ good (shape_of s)) where
+    tests-are : first (Paper.recovery_tests p (recovery_of v)) ≡ refusal s p v
+    unfolding Paper.recovery_tests work_tests
+    tests-are = first-right (open_tests p) _ (open-passed p (shape_of s) o) ∙ rw (open-good p (shape_of s) o).2
 
-  pub step-on : (s : Shape) → opened p ≡ Opening.Good s → stepped (shape_of s) p r ≡ Paper.recovery_step p r
-  unfolding stepped Paper.recovery_step Paper.recovery_list Paper.recovery_next
-  step-on s e = rw (tests-are s e, ← (open-good p s e).2)
+    pub record-refused : (n : ℕ) → some n ≡ refusal s p v → first (Paper.recovery_tests p (recovery_of v)) ≡ some n
+    record-refused n e = tests-are ∙ sym e
 
-  pub advance-refused : (n : ℕ) → opened p ≡ Opening.Refused n → record { answer = refused n; pool = p; recovery = r } ≡ Paper.recovery_on p r
-  advance-refused n e = sym ((recovery-advances p r).refuses n (ap (λ (x : Paper.RecoveryAfter). x.answer) (sym (step-refused n e))))
+  module _ (n : ℕ) (e : first (Paper.recovery_tests p (recovery_of v)) ≡ some n) where
+    pub step-refused : record { answer = refused n; pool = p; recovery = recovery_of v } ≡ Paper.recovery_step p (recovery_of v)
+    unfolding Paper.recovery_step Paper.conclude_recovery
+    step-refused = rw e
 
-  pub advance-on : (s : Shape) → opened p ≡ Opening.Good s → advanced (shape_of s) p r ≡ Paper.recovery_on p r
-  unfolding advanced recovery_made Paper.recovery_list
-  advance-on s e = rw (recovery-on p r, tests-are s e, ← (open-good p s e).2)
+    pub advance-refused : record { answer = refused n; pool = p; recovery = recovery_of v } ≡ Paper.recovery_on p (recovery_of v)
+    unfolding Paper.conclude_recovery
+    advance-refused = rw (recovery-on p (recovery_of v), e)
+
+-- ---- a call that is not refused, with k steps made
+
+module _ (s : Shape) (p : List ℕ) (v : Recovery) (o : opened p ≡ good (shape_of s)) (j : none ≡ refusal s p v) {k : ℕ} (f : progress_of v.phase ≡ Paper.recovering k) where
+  abbrev listed : List Step
+  listed = recovery_steps (shape_of s) p (remedy_of v.work)
+
+  -- step suc i of the list answered, and the pool q left
+  told-on : (q : List ℕ) (x : Step) (a : Action) (i : ℕ) → Answers.answer_of (Steps.told_of (suc i) a) ≡ made_answer (suc i) x
+      → after_of (replied v a (suc i) (step_count (remedy_of v.work))) q
+      ≡ record { answer = step_answer i (length listed) x; pool = q; recovery = Paper.with_progress (recovery_of v) (Paper.next_progress i (length listed)) }
+  unfolding replied step_answer Paper.next_progress
+  told-on q x a i e =
+      rw (count-is s p k (remedy_of v.work) (on-possible s p v j f)) (split (eqb (suc i) (step_count (remedy_of v.work))) (λ h. rw h) (λ h. rw (h, e)))
+
+  -- w: the pool as it was opened
+  pub step-made : {w : List ℕ} → w ≡ p → (a : Action) (q : List ℕ) (r : Reply) → Steps.Computed (Steps.action_of (shape_of s) w (get_or (recovery_steps (shape_of s) w (remedy_of v.work)) k barrier)) (length w) a
+      → q ≡ Steps.applied a p → r ≡ replied v a (k + 1) (step_count (remedy_of v.work)) → after_of r q ≡ Paper.recovery_step p (recovery_of v)
+  unfolding Paper.recovery_step Paper.conclude_recovery Paper.recovery_list Paper.recovery_next Paper.done_steps
+  step-made b a q r c g e =
+      let x : Step = get_or listed k barrier in
+      let d = rw b at c in
+      rw (tests-are p v s o, ← j, ← (open-good p (shape_of s) o).2, f, e, g, add-one k, computed-pool (shape_of s) p x _ a (length p) d refl)
+      (told-on (step_pool (shape_of s) x p) x a k (told-answer (suc k) a ∙ computed-answer (shape_of s) p x _ a (length p) (suc k) d refl))
+
+  pub advance-made : (q : List ℕ) (m i : ℕ) (r : Reply) → PartMade (shape_of s) listed k (recovery_barrier (remedy_of v.work) k) p q m
+      → r ≡ replied v Barrier i (step_count (remedy_of v.work)) → i ≡ m → after_of r q ≡ Paper.recovery_on p (recovery_of v)
+  unfolding Paper.conclude_recovery Paper.recovery_list recovery_made Paper.done_steps made_answer
+  advance-made q m i r c e g =
+      rw (recovery-on p (recovery_of v), tests-are p v s o, ← j, ← (open-good p (shape_of s) o).2, f, e, g, c.number, c.bytes)
+      (told-on _ barrier Barrier (recovery_barrier (remedy_of v.work) k) refl)

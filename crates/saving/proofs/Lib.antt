@@ -1,7 +1,7 @@
 pub mod Calls
-pub mod AnswerKinds
+pub mod DoneOnly
 pub mod Saving
 pub mod Uncut
+pub mod Recovering
 pub mod Saved
 pub mod TakenBack
-pub mod Recovering

@@ -1,7 +1,7 @@
 -- Laws of a recovery made call after call: on every pool it ends within three calls (`recovery-ends`), and after a cut of a run it is done, at an
 -- end of requirement 3 (`cut-recovered`). Assumes nothing.
-use Prim.Native.Nat.{ℕ, zero, suc, ◌-◌, ◌<◌, ◌≤◌}
-use mathlib.Core.Path.{◌≡◌, refl, sym, ap, ap₂, ◌∙◌, subst}
+use Prim.Native.Nat.{ℕ, zero, suc, ◌<◌, ◌≤◌}
+use mathlib.Core.Path.{◌≡◌, refl, sym, ap, ◌∙◌, subst}
 use mathlib.Core.Logic.{◌⊎◌, inl, inr, ⊎_elim}
 use mathlib.Core.Bool.{Bool, true, false}
 use mathlib.Core.List.{List, [], ◌∷◌}
@@ -175,14 +175,13 @@ module _ (pool staging : List ℕ) (ks : List Call) (sound : Sound pool) (typed 
 
 -- ---- the ways out
 
-pub recover-on : (n : ℕ) (x y : RecoveryAfter) {b : Bool} → 0 < n → b ≡ is_end x.answer → b ≡ false → y ≡ recovery_on x.pool x.recovery → recovery_from (n - 1) y ≡ recovery_from n x
-recover-on zero x y l e h q = absurd (omega arith)
-recover-on (suc n) x y l e h q = let m : suc n - 1 ≡ n = omega arith in rw (m, q) (sym (recovery-next n x (sym e ∙ h)))
+pub recover-on : (n m : ℕ) (x y : RecoveryAfter) {b : Bool} → n ≡ suc m → b ≡ is_end x.answer → b ≡ false → y ≡ recovery_on x.pool x.recovery → recovery_from m y ≡ recovery_from n x
+recover-on n m x y l e h q = rw (l, q) (sym (recovery-next m x (sym e ∙ h)))
 
 module _ (p : List ℕ) (x : RecoveryAfter) where
-  pub recover-begun : (n : ℕ) → n ≡ 3 → x ≡ recovery_start p → recovery_from n x ≡ recovered p
+  pub recover-begun : x ≡ recovery_start p → recovery_from 3 x ≡ recovered p
   unfolding recovered
-  recover-begun n m e = ap₂ recovery_from m e
+  recover-begun e = ap (recovery_from 3) e
 
   recovers : x ≡ recovered p → Recovers p x
   recovers e = record {

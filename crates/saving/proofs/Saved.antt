@@ -22,37 +22,32 @@ use Rattle.answers.specs.Meaning.{answer_of}
 use Rattle.transaction.specs.declared.Reply.{Reply}
 use Rattle.transaction.specs.Meaning.{after_of, given_of, start_of}
 use Rattle.saving.specs.Meaning.{outcome_of}
-use Rattle.saving.specs.Saving.{Outcome, Saves, Told, committed, is_done, save_on, saved, saved_as}
+use Rattle.saving.specs.Saving.{Outcome, Saves, Told, allocated, committed, is_done, save_on, saved, saved_as}
 use Rattle.saving.proofs.Uncut.{Ended, commit-ends}
 use Rattle.powercut.proofs.Answers.{accepted-none, call-answer}
 use Rattle.powercut.proofs.PowerCut.{power-cut}
 use Rattle.powercut.proofs.Refusals.{refused-is}
 
--- ---- what the beginning hands back, and allocate then: r, with staging memory st; and whether it is a refusal
+-- ---- an object allocated
 
-pub record Begun (pool : List ℕ) (tag : ℕ) (body : List ℕ) (r : Reply) (b : Bool) : Type 0 where
-  pub typed : Typed (allocate tag body)
-  pub exact : start_of r ≡ transaction_start pool
-  pub told : b ≡ is_refused (answer_of r.answer)
+module _ (pool staging : List ℕ) (tag : ℕ) (body : List ℕ) where
+  -- r is what the beginning hands back
+  module _ (r : Reply) {b : Bool} (e : start_of r ≡ transaction_start pool) (h : b ≡ is_refused (answer_of r.answer)) where
+    begun-told : {d : Bool} → b ≡ d → is_refused (transaction_start pool).answer ≡ d
+    begun-told q = ap (λ (s : TransactionStart). is_refused s.answer) (sym e) ∙ sym h ∙ q
 
-pub record Allocated (pool staging : List ℕ) (tag : ℕ) (body : List ℕ) (r : Reply) (st : List ℕ) (b : Bool) : Type 0 where
-  pub typed : Typed (allocate tag body)
-  pub begins : is_refused (transaction_start pool).answer ≡ false
-  pub exact : after_of r pool st ≡ call (begun pool staging) (allocate tag body)
-  pub told : b ≡ is_refused (answer_of r.answer)
+    pub allocated-unbegun : b ≡ true → after_of r pool staging ≡ allocated pool staging tag body
+    unfolding allocated begun
+    allocated-unbegun q = rw (begun-told q) (ap (λ (s : TransactionStart). record { answer = s.answer; left = record { pool = pool; staging = staging; txn = s.txn } }) e)
 
-pub begun-told : {pool body : List ℕ} {tag : ℕ} {r : Reply} {b c : Bool} → Begun pool tag body r b → b ≡ c → is_refused (transaction_start pool).answer ≡ c
-begun-told g h = ap (λ (s : TransactionStart). is_refused s.answer) (sym g.exact) ∙ sym g.told ∙ h
+    pub allocated-begun : {x : After} → b ≡ false → x ≡ call (given_of r.transaction pool staging) (allocate tag body) → x ≡ allocated pool staging tag body
+    unfolding allocated begun
+    allocated-begun q i =
+        rw (begun-told q) (i ∙ ap (λ (s : TransactionStart). call (record { pool = pool; staging = staging; txn = s.txn }) (allocate tag body)) e)
 
-pub allocated : {pool staging body st : List ℕ} {tag : ℕ} {t r : Reply} {b c : Bool} → Begun pool tag body t b → b ≡ false
-    → after_of r pool st ≡ call (given_of t.transaction pool staging) (allocate tag body) → c ≡ is_refused (answer_of r.answer) → Allocated pool staging tag body r st c
-unfolding begun
-allocated {pool} {staging} {body} {st} {tag} g f q h = record {
-  typed = g.typed;
-  begins = begun-told g f;
-  exact = q ∙ ap (λ (s : TransactionStart). call (record { pool = pool; staging = staging; txn = s.txn }) (allocate tag body)) g.exact;
-  told = h;
-}
+  saved-is : saved pool staging tag body ≡ save_on (allocated pool staging tag body)
+  unfolding saved allocated save_on
+  saved-is = split (is_refused (transaction_start pool).answer) (λ r. rw (r, r)) (λ f. rw f)
 
 -- on a sound pool the beginning is taken
 pub sound-begins : (p : List ℕ) → Sound p → is_refused (transaction_start p).answer ≡ false
@@ -124,24 +119,21 @@ module _ (pool staging : List ℕ) (tag : ℕ) (body : List ℕ) where
     told = λ sound. subst (λ (o : Outcome). Told pool tag body o.pool o.answer) (sym p) (saved-told sound typed).1;
   }
 
-  pub save-unbegun : {r : Reply} {b : Bool} → Begun pool tag body r b → b ≡ true → Saves pool staging tag body (outcome_of r.answer pool staging)
-  unfolding saved begun
-  save-unbegun g h = saves g.typed (rw (begun-told g h) (ap (λ (s : TransactionStart). record { answer = s.answer; pool = pool; staging = staging }) g.exact))
+  -- r is what allocating hands back, with staging memory st; b: whether it is a refusal
+  module _ (r : Reply) {st : List ℕ} {b : Bool} (t : Typed (allocate tag body)) (a : after_of r pool st ≡ allocated pool staging tag body) (e : b ≡ is_refused (answer_of r.answer)) where
+    saves-on : {o : Outcome} → o ≡ save_on (after_of r pool st) → Saves pool staging tag body o
+    saves-on q = saves t (q ∙ ap save_on a ∙ sym (saved-is pool staging tag body))
 
-  saves-on : {r : Reply} {st : List ℕ} {b : Bool} {o : Outcome} → Allocated pool staging tag body r st b → o ≡ save_on (after_of r pool st) → Saves pool staging tag body o
-  unfolding saved
-  saves-on a q = saves a.typed (rw a.begins (q ∙ ap save_on a.exact))
+    pub save-refused : b ≡ true → Saves pool staging tag body (outcome_of r.answer pool st)
+    unfolding save_on
+    save-refused h = saves-on (rw (sym e ∙ h))
 
-  pub save-refused : {r : Reply} {st : List ℕ} {b : Bool} → Allocated pool staging tag body r st b → b ≡ true → Saves pool staging tag body (outcome_of r.answer pool st)
-  unfolding save_on
-  save-refused a h = saves-on a (rw (sym a.told ∙ h))
+    -- l is what the commit hands back, with the pool p
+    module _ {p : List ℕ} {d : Bool} (f : b ≡ false) (l : Reply) (c : after_of l p st ≡ committed (given_of r.transaction pool st)) (i : d ≡ is_done (answer_of l.answer)) where
+      pub save-done : d ≡ true → Saves pool staging tag body (outcome_of r.answer p st)
+      unfolding save_on saved_as
+      save-done h = saves-on (rw (sym e ∙ f, sym c, sym i ∙ h))
 
-  -- l is what the commit hands back, with the pool p
-  module _ {r : Reply} {st p : List ℕ} {b d : Bool} (a : Allocated pool staging tag body r st b) (f : b ≡ false) (l : Reply) (c : after_of l p st ≡ committed (given_of r.transaction pool st)) (e : d ≡ is_done (answer_of l.answer)) where
-    pub save-done : d ≡ true → Saves pool staging tag body (outcome_of r.answer p st)
-    unfolding save_on saved_as
-    save-done h = saves-on a (rw (sym a.told ∙ f, sym c, sym e ∙ h))
-
-    pub save-else : d ≡ false → Saves pool staging tag body (outcome_of l.answer p st)
-    unfolding save_on saved_as
-    save-else h = saves-on a (rw (sym a.told ∙ f, sym c, sym e ∙ h))
+      pub save-else : d ≡ false → Saves pool staging tag body (outcome_of l.answer p st)
+      unfolding save_on saved_as
+      save-else h = saves-on (rw (sym e ∙ f, sym c, sym i ∙ h))

@@ -1,5 +1,5 @@
 -- Laws of a commit made call after call. Assumes nothing.
-use Prim.Native.Nat.{ℕ, zero, suc, ◌-◌, ◌<◌, ◌≤◌}
+use Prim.Native.Nat.{ℕ, zero, suc, ◌≤◌}
 use mathlib.Core.Path.{◌≡◌, refl, sym, ap, ◌∙◌}
 use mathlib.Core.Bool.{Bool, true, false}
 use native.Mathlib.Omega.{arith}
@@ -34,14 +34,10 @@ pub calls-next : (f : Given → After) (n : ℕ) (x : After) → is_end x.answer
 unfolding calls_from
 calls-next f n x h = rw h
 
-pub calls-on : (f : Given → After) (n : ℕ) (x y : After) {b : Bool} → 0 < n → b ≡ is_end x.answer → b ≡ false → y ≡ f x.left → calls_from f (n - 1) y ≡ calls_from f n x
-calls-on f zero x y l e h q = absurd (omega arith)
-calls-on f (suc n) x y l e h q = let m : suc n - 1 ≡ n = omega arith in rw (m, q) (sym (calls-next f n x (sym e ∙ h)))
+pub calls-on : (f : Given → After) (n m : ℕ) (x y : After) {b : Bool} → n ≡ suc m → b ≡ is_end x.answer → b ≡ false → y ≡ f x.left → calls_from f m y ≡ calls_from f n x
+calls-on f n m x y l e h q = rw (l, q) (sym (calls-next f m x (sym e ∙ h)))
 
 -- The start, then the calls: five.
-pub run-begun : (n : ℕ) (x : After) → n ≡ 5 → calls_from commit_on n x ≡ calls_from commit_on 5 x
-run-begun n x e = ap (λ (m : ℕ). calls_from commit_on m x) e
-
 pub run-made : (g : Given) {x y : After} → x ≡ commit_start g → y ≡ calls_from commit_on 5 x → y ≡ committed g
 unfolding committed
 run-made g e q = q ∙ ap (calls_from commit_on 5) e

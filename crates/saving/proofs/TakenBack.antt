@@ -1,14 +1,14 @@
 -- An object allocated and freed again: the ways out, and that the new book is the old one. Assumes nothing.
 use Prim.Native.Nat.{ℕ}
 use mathlib.Core.Path.{◌≡◌, refl, sym, ap, ap₂, ◌∙◌, subst}
-use mathlib.Core.Bool.{Bool, true, false}
+use mathlib.Core.Bool.{true, false}
 use mathlib.Core.List.{List, [], ◌∷◌}
 use native.Mathlib.Omega.{arith}
 use Rattle.rules.specs.Header.{shape_in}
 use Rattle.rules.specs.Book.{Listed, enter, strike}
 use Rattle.rules.specs.Answer.{After, Answer, Given, address, is_refused, taken}
 use Rattle.rules.specs.Plan.{Call, allocate, plan, release}
-use Rattle.rules.specs.Calls.{TransactionStart, Typed, begun, call, calls}
+use Rattle.rules.specs.Calls.{Typed, begun, call, calls, transaction_start}
 use Rattle.rules.specs.NewBook.{new_book, new_books, on_address, on_taken}
 use Rattle.rules.specs.Sound.{Sound, book_of}
 use Rattle.rules.proofs.Bool.{split}
@@ -19,10 +19,13 @@ use Rattle.powercut.specs.Claim.{new}
 use Rattle.powercut.proofs.Answers.{call-answer}
 use Rattle.powercut.proofs.RunInput.{held}
 use Rattle.answers.specs.Meaning.{answer_of}
+use Rattle.answers.specs.declared.Answer.{Answer as Code}
+use Rattle.answers.specs.declared.Answer.TheVariants.{Address, Barrier, Done, Refused, Started, Stored, Taken}
 use Rattle.transaction.specs.declared.Reply.{Reply}
 use Rattle.transaction.specs.Meaning.{after_of, given_of}
 use Rattle.saving.specs.TakenBack.{TakesBack, address_in, both, free_on, taken_back}
-use Rattle.saving.proofs.Saved.{Allocated, Begun, allocate-address, begun-told, made-new, sound-begins}
+use Rattle.saving.specs.Saving.{allocated}
+use Rattle.saving.proofs.Saved.{allocate-address, made-new, sound-begins}
 
 free-taken : (g : Given) (a : ℕ) → is_refused (call g (release a)).answer ≡ false → (call g (release a)).answer ≡ taken
 unfolding plan
@@ -31,6 +34,20 @@ free-taken g a f = call-answer g (release a) f
 address_is : (x : Answer) (a : ℕ) → x ≡ address a → address_in x ≡ a
 unfolding address_in
 address_is x a e = ap address_in e
+
+-- an answer that means an address is one
+address_only : (x : Code) (a : ℕ) → answer_of x ≡ address a → x ≡ Address a
+address_only (Address n) a e = cc
+address_only Taken a e = absurd (let z : ◌≡◌ {A = ℕ} 0 1 = cc in omega arith)
+address_only Started a e = absurd (let z : ◌≡◌ {A = ℕ} 0 1 = cc in omega arith)
+address_only (Stored k) a e = absurd (let z : ◌≡◌ {A = ℕ} 0 1 = cc in omega arith)
+address_only (Barrier k) a e = absurd (let z : ◌≡◌ {A = ℕ} 0 1 = cc in omega arith)
+address_only (Done k) a e = absurd (let z : ◌≡◌ {A = ℕ} 0 1 = cc in omega arith)
+address_only (Refused r) a e = absurd (let z : ◌≡◌ {A = ℕ} 0 1 = cc in omega arith)
+
+on-address : (x : After) (a : ℕ) → x.answer ≡ address a → free_on x ≡ call x.left (release a)
+unfolding free_on address_in is_refused
+on-address x a e = rw e
 
 on-refused : (x : After) → is_refused x.answer ≡ true → free_on x ≡ x
 unfolding free_on
@@ -89,21 +106,31 @@ module _ (pool staging : List ℕ) (tag : ℕ) (body : List ℕ) where
         subst (λ (y : After). (a : ℕ) × (y.left ≡ (made pool staging (both a tag body)).left) × (new pool staging (both a tag body) ≡ book_of pool)) (sym p) (back-same sound typed (subst (λ (y : After). is_refused y.answer ≡ false) p f));
   }
 
-  pub back-unbegun : {r : Reply} {b : Bool} → Begun pool tag body r b → b ≡ true → TakesBack pool staging tag body (after_of r pool staging)
-  unfolding taken_back begun
-  back-unbegun g h =
-      takes g.typed (rw (begun-told g h) (ap (λ (s : TransactionStart). record { answer = s.answer; left = record { pool = pool; staging = staging; txn = s.txn } }) g.exact))
+  back-is : taken_back pool staging tag body ≡ free_on (allocated pool staging tag body)
+  unfolding taken_back allocated free_on
+  back-is = split (is_refused (transaction_start pool).answer) (λ r. rw (r, r)) (λ f. rw f)
 
-  module _ {r : Reply} {st : List ℕ} {b : Bool} (a : Allocated pool staging tag body r st b) where
+  -- an allocated object has an address
+  allocated-address : (y : After) → y ≡ allocated pool staging tag body → is_refused y.answer ≡ false → (a : ℕ) × (y.answer ≡ address a)
+  unfolding allocated
+  allocated-address y e f = split (is_refused (transaction_start pool).answer)
+      (λ r. absurd (let i = rw r at e in let z : true ≡ false = sym r ∙ sym (ap (λ (w : After). is_refused w.answer) i) ∙ f in cc))
+      (λ r.
+      let i : y ≡ x = rw r at e in
+      let a = allocate-address (begun pool staging) tag body (ap (λ (w : After). is_refused w.answer) (sym i) ∙ f) in
+      (a.0, ap (λ (w : After). w.answer) i ∙ a.1))
+
+  -- r is what allocating hands back, with staging memory st
+  module _ (r : Reply) {st : List ℕ} (t : Typed (allocate tag body)) (e : after_of r pool st ≡ allocated pool staging tag body) where
     takes-on : {w : After} → w ≡ free_on (after_of r pool st) → TakesBack pool staging tag body w
-    unfolding taken_back
-    takes-on q = takes a.typed (rw a.begins (q ∙ ap free_on a.exact))
+    takes-on q = takes t (q ∙ ap free_on e ∙ sym back-is)
 
-    pub back-refused : b ≡ true → TakesBack pool staging tag body (after_of r pool st)
-    back-refused h = takes-on (sym (on-refused (after_of r pool st) (sym a.told ∙ h)))
+    pub back-refused : ((a : ℕ) → r.answer ≡ Address a → ⊥) → TakesBack pool staging tag body (after_of r pool st)
+    back-refused h = split (is_refused (answer_of r.answer))
+        (λ b. takes-on (sym (on-refused (after_of r pool st) b)))
+        (λ f. absurd (let a = allocated-address (after_of r pool st) e f in h a.0 (address_only r.answer a.0 a.1)))
 
-    -- free of the address n hands l back, with staging memory st'
-    pub back-freed : b ≡ false → {n : ℕ} (l : Reply) {st' : List ℕ} → n ≡ address_in (answer_of r.answer) → after_of l pool st' ≡ call (given_of r.transaction pool st) (release n)
+    -- free of the address a hands l back, with staging memory st'
+    pub back-freed : (a : ℕ) → r.answer ≡ Address a → (l : Reply) {st' : List ℕ} → after_of l pool st' ≡ call (given_of r.transaction pool st) (release a)
         → TakesBack pool staging tag body (after_of l pool st')
-    back-freed h l i p =
-        takes-on (p ∙ ap (λ (m : ℕ). call (given_of r.transaction pool st) (release m)) i ∙ sym (on-allocated (after_of r pool st) (sym a.told ∙ h)))
+    back-freed a h l p = takes-on (p ∙ sym (on-address (after_of r pool st) a (ap answer_of h)))

@@ -41,6 +41,12 @@ pub record Outcome : Type 0 where
 abbrev pub outcome : Answer → Given → Outcome
 outcome a g = record { answer = a; pool = g.pool; staging = g.staging }
 
+-- The object allocated in a transaction of its own; a refused beginning is the answer.
+unfoldable pub allocated : List ℕ → List ℕ → ℕ → List ℕ → After
+allocated pool staging tag body =
+    cond (is_refused (transaction_start pool).answer) (record { answer = (transaction_start pool).answer; left = begun pool staging })
+    (call (begun pool staging) (allocate tag body))
+
 -- The address a counts once the commit is done; else the answer is the commit's.
 unfoldable pub saved_as : Answer → After → Outcome
 saved_as a y = outcome (cond (is_done y.answer) a y.answer) y.left

@@ -1,5 +1,5 @@
 -- The object of a set-up, found by the look-up and look: the ways out. Assumes nothing.
-use Prim.Native.Nat.{ℕ, ◌+◌, ◌≤◌}
+use Prim.Native.Nat.{ℕ, ◌+◌}
 use mathlib.Core.Path.{◌≡◌, refl, sym, ap, ◌∙◌}
 use mathlib.Core.Option.{Option, none, some}
 use mathlib.Core.List.{List, [], ◌∷◌, ◌++◌}
@@ -19,9 +19,7 @@ use Rattle.rules.proofs.Test.{first-left, first-passed, first-right}
 use Rattle.rules.proofs.LookUp.{look-found}
 use Rattle.setups.specs.Setups.{found_tests, setup_size, size_test}
 use Rattle.setups.specs.Found as Finding
-use Rattle.setups.specs.Found.{Inside, conclude_spot, spot, spot_at}
-use Rattle.setups.specs.declared.Setup.{Setup}
-use Rattle.setups.specs.declared.Setup.TheVariants.{At}
+use Rattle.setups.specs.Found.{conclude_spot, spot, spot_at}
 
 -- ---- what the look-up and look tell
 
@@ -106,6 +104,3 @@ module _ (p : List ℕ) (t : ℕ) where
       pub spot-found : k ≡ setup_size → Finding.at a j ≡ spot p t
       unfolding size_test conclude_spot first
       spot-found h = sym (sized {o = none} (rw (body-part.2, eq-eqb k setup_size h)) ∙ ap (Finding.at a) body-part.1)
-
-pub inside-at : (p : List ℕ) (r : Setup) (a o : ℕ) → Inside p r → r ≡ At a o → o + setup_size ≤ length p
-inside-at p r a o i q = rw q at i

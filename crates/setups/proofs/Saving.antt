@@ -14,17 +14,24 @@ use Rattle.rules.specs.Header.{id_in, open_tests, shape_in}
 use Rattle.rules.specs.Zones.{head_at}
 use Rattle.rules.specs.Seals.{read_tests, seal_test}
 use Rattle.rules.specs.Staging.{fresh}
+use Rattle.rules.specs.Staging as Stage
 use Rattle.rules.specs.Answer.{After, Given, is_refused, refused, taken}
 use Rattle.rules.specs.Plan.{Call, allocate, write}
 use Rattle.rules.specs.Calls.{TransactionStart, begun, call, conclude_start, transaction_start}
 use Rattle.rules.specs.Look as Looking
 use Rattle.rules.specs.Look.{conclude_look}
 use Rattle.rules.specs.Tag.{look_up_tests, whole_test}
-use Rattle.rules.proofs.Bool.{split}
 use Rattle.rules.proofs.Test.{first-left, first-passed, first-right, passed_first, passed-join, passed-left, passed-right}
 use Rattle.rules.proofs.Transaction.{call-refused}
 use Rattle.setups.specs.Setups.{absent_test, body_at, conclude_save, found_tests, last_setup, number_test, recall_tests, recalled, save_call, save_call_at, save_tests, saved, setup_at, setup_size, setup_tag, size_test, unsaved}
-use Rattle.setups.specs.Found.{absent, at, begun_in, conclude_spot, or_unusable, refusal, refused_start, room_tests, spot, spot_at}
+use Rattle.setups.specs.Found.{Accepted, absent, at, begun_in, begun_of, conclude_spot, refusal, refused_start, room_tests, saved_of, spot, spot_at}
+use Rattle.std.proofs.Common.{Result, Ok, Err}
+use Rattle.refusals.specs.declared.Refusal.{Refusal}
+use Rattle.refusals.specs.Number.{number_of}
+use Rattle.answers.specs.Meaning.{answer_of}
+use Rattle.transaction.specs.declared.Transaction.{Transaction}
+use Rattle.transaction.specs.declared.Reply.{Reply}
+use Rattle.transaction.specs.Meaning.{after_of, given_of, transaction_of}
 use Rattle.setups.proofs.Beginning.{first-skip}
 
 -- ---- what was found, of the tests r and the object o
@@ -103,21 +110,29 @@ module _ (p : List ℕ) (n : ℕ) where
 
 -- ---- saving
 
--- what a call hands back, with the bytes of pool and staging memory
-abbrev after : TransactionStart → List ℕ → List ℕ → After
-after x pool staging = record { answer = x.answer; left = record { pool = pool; staging = staging; txn = x.txn } }
+-- a call k on a transaction begun hands back r, with staging memory st; or its refusal
+concluded : (p staging : List ℕ) (k : Call) (r : Reply) {st : List ℕ} (m : Result Reply Refusal) → Accepted r m → after_of r p st ≡ call (begun p staging) k
+    → saved_of m p st ≡ conclude_save p staging none (call (begun p staging) k)
+unfolding conclude_save
+concluded p staging k r {st} (Ok x) a i = ap (λ (y : Reply). after_of y p st) a.0 ∙ rw (← i, a.1)
+concluded p staging k r {st} (Err x) a i =
+    let q : (call (begun p staging) k).answer ≡ refused (number_of x) = sym (ap (λ (y : After). y.answer) i) ∙ ap answer_of a in
+    let f : is_refused (call (begun p staging) k).answer ≡ true = ap is_refused q ∙ (unfold is_refused in refl) in
+    let b : (begun p staging).staging ≡ staging = (unfold begun in refl) in
+    let s : st ≡ staging = ap (λ (y : After). y.left.staging) i ∙ ap (λ (g : Given). g.staging) (call-refused (begun p staging) k f) ∙ b in
+    rw (f, q, s)
 
 module _ (p staging : List ℕ) (n : ℕ) (body : List ℕ) where
-  -- no transaction is handed back
-  stopped : {x : TransactionStart} {m : ℕ} → x ≡ refused_start m → first (save_tests p staging n body) ≡ some m → after x p staging ≡ saved p staging n body
-  unfolding saved conclude_save unsaved
-  stopped e q = ap (λ (x : TransactionStart). after x p staging) e ∙ rw q
+  -- refused by the tests
+  stopped : {m : ℕ} → first (save_tests p staging n body) ≡ some m → unsaved p staging (refused m) ≡ saved p staging n body
+  unfolding saved conclude_save
+  stopped q = rw q
 
-  pub save-number : {x : TransactionStart} → x ≡ refused_start 32 → last_setup < n → after x p staging ≡ saved p staging n body
-  save-number e h = stopped e (unfold save_tests number_test first in (rw (lt-ltb last_setup n h)))
+  pub save-number : last_setup < n → unsaved p staging (refused 32) ≡ saved p staging n body
+  save-number h = stopped (unfold save_tests number_test first in (rw (lt-ltb last_setup n h)))
 
-  pub save-size : {x : TransactionStart} → x ≡ refused_start 33 → n ≤ last_setup → (length body ≡ setup_size → ⊥) → after x p staging ≡ saved p staging n body
-  save-size e h l = stopped e (unfold save_tests number_test size_test first in (rw (le-ltb last_setup n h, ne_eqb (length body) setup_size l)))
+  pub save-size : n ≤ last_setup → (length body ≡ setup_size → ⊥) → unsaved p staging (refused 33) ≡ saved p staging n body
+  save-size h l = stopped (unfold save_tests number_test size_test first in (rw (le-ltb last_setup n h, ne_eqb (length body) setup_size l)))
 
   module _ (h : n ≤ last_setup) (l : length body ≡ setup_size) where
     save-first : first (save_tests p staging n body) ≡ first (room_tests p (length staging) ++ (whole_test p ∷ found_tests p (setup_at p n)))
@@ -126,70 +141,66 @@ module _ (p staging : List ℕ) (n : ℕ) (body : List ℕ) where
         rw (le-ltb last_setup n h, eq-eqb (length body) setup_size l)
         (ap first (sym (append_assoc (open_tests p) (when (ltb (length staging) staging_size) 9 ∷ seal_test p ∷ []) (whole_test p ∷ found_tests p (setup_at p n)))))
 
-    -- b is what the beginning hands back
-    module _ {b : TransactionStart} (e : b ≡ begun_in p (length staging)) where
-      begin-refused : (o : Option ℕ) → first (room_tests p (length staging)) ≡ o → is_refused b.answer ≡ true → after b p staging ≡ saved p staging n body
-      unfolding begun_in conclude_start is_refused
-      begin-refused (some m) q f = let k : b ≡ refused_start m = e ∙ rw q in stopped k (save-first ∙ first-left (room_tests p (length staging)) _ m q)
-      begin-refused none q f =
-          absurd (let k : b ≡ record { answer = taken; txn = fresh (id_in p) } = e ∙ rw q in let g = sym (ap (λ (x : TransactionStart). is_refused x.answer) k) ∙ f in let z : ◌≡◌ {A = ℕ} 0 1 = cc in omega arith)
+    begin-refused : (o : Option ℕ) → first (room_tests p (length staging)) ≡ o → {m : ℕ} → refused_start m ≡ begun_in p (length staging) → unsaved p staging (refused m) ≡ saved p staging n body
+    unfolding begun_in conclude_start
+    begin-refused (some k) q {m} e =
+        let i : refused_start m ≡ refused_start k = e ∙ rw q in
+        let j : refused m ≡ refused k = ap (λ (x : TransactionStart). x.answer) i in
+        let z : m ≡ k = cc in
+        stopped (save-first ∙ first-left (room_tests p (length staging)) _ m (q ∙ ap some (sym z)))
+    begin-refused none q {m} e =
+        let i : refused_start m ≡ record { answer = taken; txn = fresh (id_in p) } = e ∙ rw q in
+        let j : refused m ≡ taken = ap (λ (x : TransactionStart). x.answer) i in
+        absurd (let z : ◌≡◌ {A = ℕ} 0 1 = cc in omega arith)
 
-      pub save-unbegun : is_refused b.answer ≡ true → after b p staging ≡ saved p staging n body
-      save-unbegun f = begin-refused (first (room_tests p (length staging))) refl f
+    pub save-unbegun : (x : Refusal) → begun_of (Err x) ≡ begun_in p (length staging) → unsaved p staging (refused (number_of x)) ≡ saved p staging n body
+    save-unbegun x e = begin-refused (first (room_tests p (length staging))) refl e
 
-      begin-passed : (o : Option ℕ) → first (room_tests p (length staging)) ≡ o → is_refused b.answer ≡ false
-          → (first (room_tests p (length staging)) ≡ none) × (b ≡ record { answer = taken; txn = fresh (id_in p) })
-      unfolding begun_in conclude_start is_refused
-      begin-passed (some m) q f =
-          absurd (let k : b ≡ refused_start m = e ∙ rw q in let g = sym (ap (λ (x : TransactionStart). is_refused x.answer) k) ∙ f in let z : ◌≡◌ {A = ℕ} 0 1 = cc in omega arith)
-      begin-passed none q f = (q, e ∙ rw q)
+    -- t is what the beginning hands back
+    module _ (t : Transaction) (e : begun_of (Ok t) ≡ begun_in p (length staging)) where
+      begin-passed : (o : Option ℕ) → first (room_tests p (length staging)) ≡ o → (first (room_tests p (length staging)) ≡ none) × (transaction_of t ≡ fresh (id_in p))
+      unfolding begun_in conclude_start
+      begin-passed (some m) q =
+          let i : begun_of (Ok t) ≡ refused_start m = e ∙ rw q in
+          let j : taken ≡ refused m = ap (λ (x : TransactionStart). x.answer) i in
+          absurd (let z : ◌≡◌ {A = ℕ} 0 1 = cc in omega arith)
+      begin-passed none q =
+          let i : begun_of (Ok t) ≡ record { answer = taken; txn = fresh (id_in p) } = e ∙ rw q in
+          (q, ap (λ (x : TransactionStart). x.txn) i)
 
-      module _ (f : is_refused b.answer ≡ false) where
-        room-passed : (first (room_tests p (length staging)) ≡ none) × (b ≡ record { answer = taken; txn = fresh (id_in p) })
-        room-passed = begin-passed (first (room_tests p (length staging))) refl f
+      room-passed : (first (room_tests p (length staging)) ≡ none) × (transaction_of t ≡ fresh (id_in p))
+      room-passed = begin-passed (first (room_tests p (length staging))) refl
 
-        reads : first (read_tests p) ≡ none
-        unfolding read_tests room_tests
-        reads =
-            let i = first-passed (room_tests p (length staging)) room-passed.0 in
-            passed_first (open_tests p ++ (seal_test p ∷ [])) (passed-join (open_tests p) (seal_test p ∷ []) (passed-left (open_tests p) _ i) (passed-right (open_tests p) _ i).1)
+      reads : first (read_tests p) ≡ none
+      unfolding read_tests room_tests
+      reads =
+          let i = first-passed (room_tests p (length staging)) room-passed.0 in
+          passed_first (open_tests p ++ (seal_test p ∷ [])) (passed-join (open_tests p) (seal_test p ∷ []) (passed-left (open_tests p) _ i) (passed-right (open_tests p) _ i).1)
 
-        -- the transaction handed on is a fresh one
-        abbrev given : Given
-        given = (after b p staging).left
+      -- it is a fresh one
+      begun-given : given_of t p staging ≡ begun p staging
+      unfolding begun transaction_start conclude_start
+      begun-given = rw reads (ap (λ (x : Stage.Transaction). record { pool = p; staging = staging; txn = x }) room-passed.1)
 
-        begun-given : given ≡ begun p staging
-        unfolding begun transaction_start conclude_start
-        begun-given = rw reads (ap (λ (x : TransactionStart). (after x p staging).left) room-passed.1)
+      -- what is left of a save's tests are those by which the set-up is found
+      save-finds : first (save_tests p staging n body) ≡ first (find_tests p n)
+      unfolding look_up_tests
+      save-finds =
+          save-first ∙ first-right (room_tests p (length staging)) _ (first-passed (room_tests p (length staging)) room-passed.0)
+          ∙ sym (ap first (append_assoc (read_tests p) (whole_test p ∷ []) (found_tests p (setup_at p n))) ∙ first-right (read_tests p) _ (first-passed (read_tests p) reads))
 
-        -- what is left of a save's tests are those by which the set-up is found
-        save-finds : first (save_tests p staging n body) ≡ first (find_tests p n)
-        unfolding look_up_tests
-        save-finds =
-            save-first ∙ first-right (room_tests p (length staging)) _ (first-passed (room_tests p (length staging)) room-passed.0)
-            ∙ sym (ap first (append_assoc (read_tests p) (whole_test p ∷ []) (found_tests p (setup_at p n))) ∙ first-right (read_tests p) _ (first-passed (read_tests p) reads))
+      pub save-spot-refused : (x : Refusal) → spot p (setup_tag n) ≡ refusal (number_of x) → unsaved p staging (refused (number_of x)) ≡ saved p staging n body
+      save-spot-refused x q = stopped (save-finds ∙ find-refused p n (number_of x) q)
 
-        pub save-spot-refused : {x : TransactionStart} {m : ℕ} → spot p (setup_tag n) ≡ refusal m → x ≡ refused_start m → after x p staging ≡ saved p staging n body
-        save-spot-refused {m = m} q k = stopped k (save-finds ∙ find-refused p n m q)
+      -- the call k hands back r, with staging memory st; or its refusal: m
+      module _ (r : Reply) {st : List ℕ} (m : Result Reply Refusal) (a : Accepted r m) where
+        given-fresh : (k : Call) → after_of r p st ≡ call (given_of t p staging) k → after_of r p st ≡ call (begun p staging) k
+        given-fresh k c = c ∙ ap (λ (g : Given). call g k) begun-given
 
-        -- the call hands back r, with staging memory st; x is r without its transaction if it is refused
-        concluded : (k : Call) {r x : TransactionStart} {st : List ℕ} → after r p st ≡ call given k → x ≡ or_unusable r → after x p st ≡ conclude_save p staging none (call (begun p staging) k)
-        unfolding conclude_save unsaved or_unusable begun
-        concluded k {r} {x} {st} c u =
-            let m : after r p st ≡ call (begun p staging) k = c ∙ ap (λ (g : Given). call g k) begun-given in
-            split (is_refused r.answer)
-            (λ t.
-            let y : is_refused (call (begun p staging) k).answer ≡ true = sym (ap (λ (z : After). is_refused z.answer) m) ∙ t in
-            let i : st ≡ staging = ap (λ (z : After). z.left.staging) m ∙ ap (λ (g : Given). g.staging) (call-refused (begun p staging) k y) in
-            rw (u, t, i, y, ap (λ (z : After). z.answer) m))
-            (λ t. rw (u, t, ← m, t))
-
-        pub save-anew : {r x : TransactionStart} {st : List ℕ} → spot p (setup_tag n) ≡ absent → after r p st ≡ call given (allocate (setup_tag n) body) → x ≡ or_unusable r
-            → after x p st ≡ saved p staging n body
+        pub save-anew : spot p (setup_tag n) ≡ absent → after_of r p st ≡ call (given_of t p staging) (allocate (setup_tag n) body) → saved_of m p st ≡ saved p staging n body
         unfolding saved save_call save_call_at
-        save-anew q c u = let i = find_absent p n q in concluded (allocate (setup_tag n) body) c u ∙ rw (save-finds ∙ i.0, i.1)
+        save-anew q c = let i = find_absent p n q in concluded p staging (allocate (setup_tag n) body) r m a (given-fresh (allocate (setup_tag n) body) c) ∙ rw (save-finds ∙ i.0, i.1)
 
-        pub save-over : {r x : TransactionStart} {st : List ℕ} (a j : ℕ) → spot p (setup_tag n) ≡ at a j → after r p st ≡ call given (write a 0 body) → x ≡ or_unusable r
-            → after x p st ≡ saved p staging n body
+        pub save-over : (o j : ℕ) → spot p (setup_tag n) ≡ at o j → after_of r p st ≡ call (given_of t p staging) (write o 0 body) → saved_of m p st ≡ saved p staging n body
         unfolding saved save_call save_call_at
-        save-over a j q c u = let i = find_at p n a j q in concluded (write a 0 body) c u ∙ rw (save-finds ∙ i.0, i.1)
+        save-over o j q c = let i = find_at p n o j q in concluded p staging (write o 0 body) r m a (given-fresh (write o 0 body) c) ∙ rw (save-finds ∙ i.0, i.1)

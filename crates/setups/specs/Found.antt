@@ -1,5 +1,5 @@
 -- What the code's steps mean: a transaction begun with enough staging memory, and the set-up found; no promise speaks of them. Assumes nothing.
-use Rattle.std.specs.Prelude.{ℕ, ◌+◌, ◌≤◌, Bool, not, cond, ◌||◌, List, [], ◌∷◌, ◌++◌, length, eqb, ltb}
+use Rattle.std.specs.Prelude.{ℕ, ◌+◌, ◌≤◌, ◌≡◌, false, List, [], ◌∷◌, ◌++◌, length, ltb, ⊤, Result, Ok, Err, Option as CodeOption, Some, None}
 use Rattle.std.proofs.Math.Option.{Option, none, some}
 use Rattle.rules.specs.Shape.{head_size, staging_size}
 use Rattle.rules.specs.Test.{Test, first, when}
@@ -7,26 +7,38 @@ use Rattle.rules.specs.Header.{id_in, open_tests, shape_in}
 use Rattle.rules.specs.Zones.{head_at}
 use Rattle.rules.specs.Seals.{seal_test}
 use Rattle.rules.specs.Staging.{fresh, unusable}
-use Rattle.rules.specs.Answer.{Answer, is_refused, refused}
+use Rattle.rules.specs.Answer.{After, is_refused, refused, taken}
 use Rattle.rules.specs.Calls.{TransactionStart, conclude_start}
 use Rattle.rules.specs.Sound.{book_of}
 use Rattle.rules.specs.Tag.{first_tagged, look_up_tests}
-use Rattle.answers.specs.Meaning.{value_of}
-use Rattle.setups.specs.Setups.{found_tests, setup_size}
+use Rattle.refusals.specs.declared.Refusal.{Refusal}
+use Rattle.refusals.specs.Number.{number_of}
+use Rattle.answers.specs.declared.Answer.TheVariants.{Refused}
+use Rattle.answers.specs.Meaning.{answer_of}
+use Rattle.transaction.specs.declared.Transaction.{Transaction}
+use Rattle.transaction.specs.declared.Reply.{Reply}
+use Rattle.transaction.specs.Meaning.{after_of, transaction_of}
+use Rattle.setups.specs.Setups.{found_tests, setup_size, unsaved}
 use Rattle.setups.specs.declared.Setup.{Setup}
-use Rattle.setups.specs.declared.Setup.TheVariants.{Absent, At, Refused}
 
 -- What a refused save hands back.
 abbrev pub refused_start : ℕ → TransactionStart
 refused_start n = record { answer = refused n; txn = unusable }
 
--- What a call hands back, without its transaction if it is refused.
-unfoldable pub or_unusable : TransactionStart → TransactionStart
-or_unusable x = cond (is_refused x.answer) (record { answer = x.answer; txn = unusable }) x
+-- A transaction begun, or the refusal.
+abbrev pub begun_of : Result Transaction Refusal → TransactionStart
+begun_of (Ok t) = record { answer = taken; txn = transaction_of t }
+begun_of (Err x) = refused_start (number_of x)
 
--- Whether a beginning that answers so met a pool that opens: it is taken, or refused with 21.
-unfoldable pub opens_with : Answer → Bool
-opens_with a = not (is_refused a) || eqb (value_of a) 21
+-- A call hands r back, which is not refused; or its refusal.
+abbrev pub Accepted : Reply → Result Reply Refusal → Type 0
+Accepted r (Ok x) = (x ≡ r) × (is_refused (answer_of r.answer) ≡ false)
+Accepted r (Err x) = r.answer ≡ Refused x
+
+-- What a save leaves: a refused one leaves pool and staging, and hands back a record that no call takes.
+abbrev pub saved_of : Result Reply Refusal → List ℕ → List ℕ → After
+saved_of (Ok r) pool staging = after_of r pool staging
+saved_of (Err x) pool staging = unsaved pool staging (refused (number_of x))
 
 -- 2, 3, 4, 2; 9 with n bytes of staging memory; 21.
 unfoldable pub room_tests : List ℕ → ℕ → List Test
@@ -41,16 +53,16 @@ pub data Spot : Type 0 where
   absent : Spot
   refusal : ℕ → Spot
 
-abbrev pub spot_of : Setup → Spot
-spot_of (At a o) = at a o
-spot_of Absent = absent
-spot_of (Refused n) = refusal n
+abbrev pub spot_of : Result (CodeOption Setup) Refusal → Spot
+spot_of (Ok (Some s)) = at s.address s.at
+spot_of (Ok None) = absent
+spot_of (Err x) = refusal (number_of x)
 
 -- Its body lies in the pool.
-abbrev pub Inside : List ℕ → Setup → Type 0
-Inside p (At a o) = o + setup_size ≤ length p
-Inside p Absent = Unit {0}
-Inside p (Refused n) = Unit {0}
+abbrev pub Inside : List ℕ → Result (CodeOption Setup) Refusal → Type 0
+Inside p (Ok (Some s)) = s.at + setup_size ≤ length p
+Inside p (Ok None) = ⊤
+Inside p (Err x) = ⊤
 
 unfoldable pub spot_at : List ℕ → Option ℕ → Spot
 spot_at p none = absent

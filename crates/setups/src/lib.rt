@@ -2,159 +2,141 @@
 // pool by itself. No function has a `requires`: each answers for all inputs.
 #![tactic(auto)]
 
-ghost use Rattle.std.specs.Prelude.{◌≡◌, ℕ, ◌+◌};
+ghost use Rattle.std.specs.Prelude.{◌≡◌, ℕ, ◌+◌, ◌<◌, ◌≤◌, MatchResult};
+ghost use Rattle.refusals.specs.declared.Refusal.TheVariants.{SetupNumber};
 ghost use Rattle.rules.specs.Look.{part, seen};
-ghost use Rattle.answers.specs.Meaning.{answer_of};
-ghost use Rattle.transaction.specs.Meaning.{after_of, start_of};
+ghost use Rattle.transaction.specs.Meaning.{after_of};
 ghost use Rattle.zones.specs.Body.{look_of, Within};
 ghost use Rattle.pool.specs.Meaning.{refusal_of};
-ghost use Rattle.setups.specs.Setups.{recalled, saved};
-ghost use Rattle.setups.specs.Found.{begun_in, Inside, opens_with, or_unusable, refused_start, spot, spot_of};
+ghost use Rattle.setups.specs.Setups.{last_setup, recalled, saved, setup_tag};
+ghost use Rattle.setups.specs.Found.{Accepted, begun_in, begun_of, Inside, saved_of, spot, spot_of};
 
-use answers::{Answer, is_refused, value};
-use pool::Found;
+use answers::Answer;
 use record::Record;
+use refusals::Refusal;
 use transaction::{Reply, Transaction};
 use zones::Body;
 
+// The last set-up.
+const LAST: usize = 9;
 // The bytes of a set-up.
 const SIZE: usize = 120;
+// Bytes of staging memory, at least: `layout` has it too, but a set-up crate stands on the pool's public calls alone.
+const STAGING: usize = 2032;
 
-// The object of a set-up: its address, and where its body lies; none; or a refusal's number.
+// The object of a set-up: its address, and where its body lies.
 #[derive(Clone, Copy)]
-enum Setup {
-    At(usize, usize),
-    Absent,
-    Refused(u8),
+struct Setup {
+    address: usize,
+    at: usize,
 }
 
-// What a refused save hands back: a record that no call takes.
-fn refused(n: u8) -> Reply
-    ensures { start_of result ≡ refused_start n }
+// The tag of set-up `n`, or refusal 32.
+fn tag_of(n: usize) -> Result<u32, Refusal>
+    ensures { MatchResult result (λ t. (t ≡ setup_tag n) × (n ≤ last_setup)) (λ x. (x ≡ SetupNumber) × (last_setup < n)) }
 {
-    Reply {
-        answer: Answer::Refused(n),
-        transaction: Transaction {
-            txn: Record::unusable(),
-        },
+    if LAST < n {
+        return Err(Refusal::SetupNumber);
     }
+    Ok((100 + n) as u32)
 }
 
-// What a call hands back, without its transaction if it is refused.
-fn or_unusable(r: Reply) -> Reply
-    ensures { start_of result ≡ or_unusable (start_of r) }
+// What a call hands back, or its refusal.
+fn accepted(reply: Reply) -> Result<Reply, Refusal>
+    ensures { Accepted reply result }
 {
-    let answer = r.answer;
-    if is_refused(answer) {
-        return Reply {
-            answer,
-            transaction: Transaction {
-                txn: Record::unusable(),
-            },
-        };
+    match reply.answer {
+        Answer::Refused(refusal) => Err(refusal),
+        _ => Ok(reply),
     }
-    r
 }
 
-// Whether a beginning that answers so met a pool that opens: it is taken, or refused with 21.
-fn opens(answer: Answer) -> bool
-    ensures { result ≡ opens_with (answer_of answer) }
+// A transaction begun, with `room` bytes of staging memory: or the first of 2, 3, 4, 2, 9, 21, where beginning alone knows no 9.
+fn begin(pool: &[u8], room: usize) -> Result<Transaction, Refusal>
+    ensures { begun_of result ≡ begun_in pool.now room }
 {
-    if is_refused(answer) {
-        return value(answer) == 21;
+    let begun = accepted(Transaction::begin(pool));
+    if STAGING <= room {
+        return begun.map(|reply| reply.transaction);
     }
-    true
+    match begun {
+        Ok(_) | Err(Refusal::Sealed) => Err(Refusal::Staging),
+        Err(refusal) => Err(refusal),
+    }
 }
 
-// A transaction begun, with `room` bytes of staging memory: the first of 2, 3, 4, 2, 9, 21, where beginning alone knows no 9.
-fn begin(pool: &[u8], room: usize) -> Reply
-    ensures { start_of result ≡ begun_in pool.now room }
-{
-    let begun = Transaction::begin(pool);
-    if 2032 <= room {
-        return begun;
-    }
-    let answer = begun.answer;
-    if opens(answer) {
-        return refused(9);
-    }
-    begun
-}
-
-// The object with this tag, the lowest if several, if it can be a set-up; or the first of 2, 3, 4, 2, 21, 23, 25, 33.
-fn find(pool: &[u8], tag: u32) -> Setup
+// The object with this tag, the lowest if several, if there is one and it can be a set-up; or the first of 2, 3, 4, 2, 21, 23, 25, 33.
+fn find(pool: &[u8], tag: u32) -> Result<Option<Setup>, Refusal>
     ensures { (spot_of result ≡ spot pool.now tag) × Inside pool.now result }
 {
-    match pool::look_up(pool, tag, 0) {
-        Found::Refused(n) => Setup::Refused(n),
-        Found::Absent => Setup::Absent,
-        Found::At(a) => match pool::look_for(pool, a) {
-            Body::Refused(n) => Setup::Refused(n),
-            Body::At(at, m) => {
-                if m != SIZE {
-                    return Setup::Refused(33);
-                }
-                Setup::At(a, at)
-            }
-        },
+    let Some(address) = pool::look_up(pool, tag, 0)? else {
+        return Ok(None);
+    };
+    let body = pool::look_for(pool, address)?;
+    if body.length != SIZE {
+        return Err(Refusal::SetupSize);
     }
+    Ok(Some(Setup {
+        address,
+        at: body.at,
+    }))
 }
 
 // Stages set-up `n` in a transaction of its own: allocates it, or writes it whole. Commit and steps stay with the caller, who passes the
-// barriers. The first of refusals 32, 33 given, 2, 3, 4, 2, 9, 21, 23, 25, 33 found, 26.
+// barriers. The first of refusals 32, 33 given, 2, 3, 4, 2, 9, 21, 23, 25, 33 found, 26; it hands back a record that no call takes.
 pub fn save(pool: &[u8], staging: &mut [u8], n: usize, body: &[u8]) -> Reply
     ensures { after_of result pool.now staging.new ≡ saved pool.now staging.old n body.now }
 {
-    if n > 9 {
-        return refused(32);
+    match try_save(pool, staging, n, body) {
+        Ok(reply) => reply,
+        Err(refusal) => Reply {
+            answer: Answer::Refused(refusal),
+            transaction: Transaction {
+                txn: Record::unusable(),
+            },
+        },
     }
+}
+
+fn try_save(pool: &[u8], staging: &mut [u8], n: usize, body: &[u8]) -> Result<Reply, Refusal>
+    ensures { saved_of result pool.now staging.new ≡ saved pool.now staging.old n body.now }
+{
+    let tag = tag_of(n)?;
     if body.len() != SIZE {
-        return refused(33);
+        return Err(Refusal::SetupSize);
     }
-    let begun = begin(pool, staging.len());
-    let answer = begun.answer;
-    if is_refused(answer) {
-        return begun;
-    }
-    let txn = begun.transaction;
-    let tag = (100 + n) as u32;
-    match find(pool, tag) {
-        Setup::Refused(m) => refused(m),
-        Setup::Absent => or_unusable(txn.allocate(pool, staging, tag, body)),
-        Setup::At(a, _) => or_unusable(txn.write(pool, staging, a, 0, body)),
+    let txn = begin(pool, staging.len())?;
+    match find(pool, tag)? {
+        None => accepted(txn.allocate(pool, staging, tag, body)),
+        Some(setup) => accepted(txn.write(pool, staging, setup.address, 0, body)),
     }
 }
 
 // The part of the pool that holds set-up `n`, or the first of refusals 32, 2, 3, 4, 2, 21, 23, 31, 25, 33.
-pub fn recall_for(pool: &[u8], n: usize) -> Body
+pub fn recall_for(pool: &[u8], n: usize) -> Result<Body, Refusal>
     ensures { (look_of result ≡ recalled pool.now n) × Within pool.now result }
 {
-    if n > 9 {
-        return Body::Refused(32);
-    }
-    match find(pool, (100 + n) as u32) {
-        Setup::Refused(m) => Body::Refused(m),
-        Setup::Absent => Body::Refused(31),
-        Setup::At(_, at) => Body::At(at, SIZE),
-    }
+    let setup = find(pool, tag_of(n)?)?.ok_or(Refusal::NoSetup)?;
+    Ok(Body {
+        at: setup.at,
+        length: SIZE,
+    })
 }
 
-// Why recall hands out an empty part: the refusal's number, or 0.
+// Why recall hands out an empty part: the refusal's number, or 0 (A.1 takes look's companion over).
 pub fn recall_refusal(pool: &[u8], n: usize) -> u8
     ensures { result ≡ refusal_of (recalled pool.now n) }
 {
-    match recall_for(pool, n) {
-        Body::Refused(m) => m,
-        Body::At(_, _) => 0,
-    }
+    refusals::number_or_0(recall_for(pool, n))
 }
 
-// The bytes of set-up `n`, in the pool itself; an empty part if it is refused.
+// The bytes of set-up `n`, in the pool itself; an empty part if it is refused. No function serves `look` too: it would be public and require
+// that the body lies in the pool.
 pub fn recall(pool: &[u8], n: usize) -> &[u8]
     ensures { (result.now ≡ seen pool.now (recalled pool.now n)) × ((at m : ℕ) → recalled pool.now n ≡ part at m → result.ref_ptr ≡ (pool.entry.ref_ptr.0, pool.entry.ref_ptr.1 + at)) }
 {
     match recall_for(pool, n) {
-        Body::Refused(_) => &pool[0..0],
-        Body::At(at, m) => &pool[at..at + m],
+        Ok(body) => &pool[body.at..body.at + body.length],
+        Err(_) => &pool[0..0],
     }
 }

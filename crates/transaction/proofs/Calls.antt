@@ -6,6 +6,7 @@ use mathlib.Core.List.{List, [], ◌∷◌, ◌++◌, append_assoc, append-nil}
 use native.Mathlib.Omega.{arith}
 use lib.ListN.{length}
 use borrow.Author.Tests.{ne_eqb}
+use Rattle.std.proofs.Common.{Result, Ok, Err}
 use Rattle.rules.specs.Shape.{Shape as PoolShape}
 use Rattle.rules.specs.Words.{Bytes}
 use Rattle.rules.specs.Test.{Test, first}
@@ -19,19 +20,17 @@ use Rattle.rules.proofs.Test.{Passed, first-left, first-passed, first-right, not
 use Rattle.powercut.specs.Commit.{commit_on, commit_start, commit_step, commit_tests, start_answer, start_phase}
 use Rattle.powercut.proofs.CommitOn.{commit-advances}
 use Rattle.layout.specs.declared.Shape.{Shape}
-use Rattle.layout.specs.declared.Opened.{Opened}
-use Rattle.layout.specs.declared.Opened.TheVariants as Opening
-use Rattle.layout.specs.Meaning.{answer, opened, shape_of}
-use Rattle.layout.proofs.Opening.{answer-good, answer-opened, answer-refused, open-long, open-refused}
+use Rattle.layout.specs.Meaning.{answer, good, opened, refused, shape_of}
+use Rattle.layout.proofs.Opening.{answer-good, answer-opened, answer-refused, open-good, open-long, open-refused, passed-open}
+use Rattle.refusals.specs.declared.Refusal.{Refusal}
+use Rattle.refusals.specs.Number.{number_of}
 use Rattle.stage.specs.View.{entries_of, seen}
 use Rattle.answers.specs.declared.Answer.TheVariants.{Taken}
 use Rattle.answers.specs.declared.Staged.{Staged}
 use Rattle.answers.specs.Planned.{Judged, Left, conclude_staged, left_of, many_test, planned}
 use Rattle.record.specs.declared.Record.{Record}
-use Rattle.record.specs.declared.Verdict.{Verdict}
-use Rattle.record.specs.declared.Verdict.TheVariants.{Good}
-use Rattle.record.specs.Meaning.{given, record_of, verdict}
-use Rattle.record.proofs.Judging.{live-only, record-judged, record-shape, verdict-good}
+use Rattle.record.specs.Meaning.{given, record_of}
+use Rattle.record.proofs.Judging.{live-only, record-judged}
 use Rattle.commit.specs.declared.Stepped.{Stepped}
 use Rattle.commit.specs.Stepped as Commit
 use Rattle.commit.specs.Stepped.{started_with}
@@ -40,19 +39,19 @@ use Rattle.transaction.specs.Meaning.{after_of, refused_back, staged_back, start
 
 -- ---- the beginning
 
-module _ (p : List ℕ) {o : Opened} (f : o ≡ answer (first (read_tests p)) (shape_in p)) where
-  pub begin-long : {s : Shape} → o ≡ Opening.Good s → 512 ≤ length p
+module _ (p : List ℕ) where
+  pub begin-long : (s : Shape) → answer (first (read_tests p)) (shape_in p) ≡ good (shape_of s) → 512 ≤ length p
   unfolding read_tests
-  begin-long {s} d = open-long p s (answer-opened p _ (sym f ∙ d))
+  begin-long s d = open-long p (shape_of s) (answer-opened p _ d)
 
-  pub begin-taken : {s : Shape} {i : ℕ} (t : Record) → o ≡ Opening.Good s → i ≡ id_in p → record_of t ≡ fresh i
+  pub begin-taken : (s : Shape) {i : ℕ} (t : Record) → answer (first (read_tests p)) (shape_in p) ≡ good (shape_of s) → i ≡ id_in p → record_of t ≡ fresh i
       → start_of (record { answer = Taken; transaction = record { txn = t } }) ≡ transaction_start p
   unfolding transaction_start conclude_start
-  begin-taken {s} t d e q = rw ((answer-good (first (read_tests p)) (shape_in p) s (sym f ∙ d)).0, q, e)
+  begin-taken s t d e q = rw ((answer-good (first (read_tests p)) (shape_in p) (shape_of s) d).0, q, e)
 
-  pub begin-refused : {i : ℕ} {t : Record} {r : Reply} → o ≡ Opening.Refused i → record_of t ≡ unusable → r ≡ refused_back t i → start_of r ≡ transaction_start p
+  pub begin-refused : (x : Refusal) {t : Record} {r : Reply} → answer (first (read_tests p)) (shape_in p) ≡ refused (number_of x) → record_of t ≡ unusable → r ≡ refused_back t x → start_of r ≡ transaction_start p
   unfolding transaction_start conclude_start
-  begin-refused {i} d q h = rw (answer-refused (first (read_tests p)) (shape_in p) i (sym f ∙ d), h, q)
+  begin-refused x d q h = rw (answer-refused (first (read_tests p)) (shape_in p) (number_of x) d, h, q)
 
 -- ---- a call
 
@@ -93,65 +92,96 @@ module _ (g : Given) where
       told none e = unfold conclude in refl
       told (some i) e = unfold conclude commit_step in (commit-advances g).refuses i (rw e)
 
-  -- ---- a pool that does not open
+-- ---- the record judged, on a pool of the shape s: the tests of the record, then us
 
-  module _ {o : Opened} {i : ℕ} (b : o ≡ opened g.pool) (d : o ≡ Opening.Refused i) where
-    pub record-unopened : first (record_tests g) ≡ some i
+module _ (g : Given) (ts us : List Test) (q : ts ≡ record_tests g ++ us) where
+  -- refused by the pool, or by the record
+  pub pool-refused : (n : ℕ) → opened g.pool ≡ refused n → refused n ≡ answer (first ts) (shape_in g.pool)
+  unfolding answer record_tests
+  pool-refused n e =
+      rw (q, first-left (record_tests g) us n (first-left (open_tests g.pool) _ n (open-refused g.pool n e)))
+
+  pub record-refused : (n : ℕ) → some n ≡ first ts → refused n ≡ answer (first ts) (shape_in g.pool)
+  unfolding answer
+  record-refused n e = rw (← e)
+
+  pub record-good : (s : Shape) → opened g.pool ≡ good (shape_of s) → none ≡ first ts → good (shape_of s) ≡ answer (first ts) (shape_in g.pool)
+  unfolding answer
+  record-good s e h = rw (← h, (open-good g.pool (shape_of s) e).2)
+
+  -- passed
+  module _ (s : Shape) (e : answer (first ts) (shape_in g.pool) ≡ good (shape_of s)) where
+    passed : Passed (record_tests g ++ us)
+    passed = first-passed (record_tests g ++ us) (ap first (sym q) ∙ (answer-good (first ts) (shape_in g.pool) (shape_of s) e).0)
+
+    same-shape : shape_in g.pool ≡ shape_of s
+    same-shape = (answer-good (first ts) (shape_in g.pool) (shape_of s) e).1
+
+    recorded : Passed (record_tests g)
+    recorded = passed-left (record_tests g) us passed
+
+    pub record-passed : first (record_tests g) ≡ none
+    record-passed = passed_first (record_tests g) recorded
+
+    pub pool-opened : opened g.pool ≡ good (shape_of s)
     unfolding record_tests
-    record-unopened = first-left (open_tests g.pool) _ i (open-refused g.pool i (sym b ∙ d))
+    pool-opened = passed-open g.pool (passed-left (open_tests g.pool) _ recorded) ∙ ap good same-shape
 
-    pub front-unopened : first front ≡ some i
-    front-unopened = first-left (record_tests g) (live_tests g) i record-unopened
+-- the same of the pool as it was opened
+module _ {p q : List ℕ} (b : q ≡ p) (st : List ℕ) (t : Record) {o : Option ℕ} where
+  pub judged_same : o ≡ first (record_tests (given q st t)) → o ≡ first (record_tests (given p st t))
+  judged_same e = rw b at e
 
-  -- ---- a record that passed, and is open
+  pub ready_same : o ≡ first (record_tests (given q st t) ++ live_tests (given q st t)) → o ≡ first (record_tests (given p st t) ++ live_tests (given p st t))
+  ready_same e = rw b at e
 
-  module _ {o : Opened} {s : Shape} {v : Verdict} (b : o ≡ opened g.pool) (d : o ≡ Opening.Good s) (h : v ≡ verdict (first front)) (f : v ≡ Good) where
-    opens : opened g.pool ≡ Opening.Good s
-    opens = sym b ∙ d
-
-    passed : Passed front
-    passed = first-passed front (verdict-good (first front) h f)
-
-    recorded : first (record_tests g) ≡ none
-    recorded = passed_first (record_tests g) (passed-left (record_tests g) (live_tests g) passed)
-
-    is_open : g.txn.phase ≡ live
-    unfolding live_tests
-    is_open = live-only g.txn.phase (not-not (is_live g.txn.phase) (passed-right (record_tests g) (live_tests g) passed).0)
-
-    pub call-judged : Bytes g.staging → Judged (shape_of s) g.pool g.staging g.txn.count
-    call-judged k = record-judged g opens recorded k
+-- the record is open
+is_open : (g : Given) → Passed (live_tests g) → g.txn.phase ≡ live
+unfolding live_tests
+is_open g h = live-only g.txn.phase (not-not (is_live g.txn.phase) h.0)
 
 -- ---- the two ways out: refused by the first tests, or done by the part below
 
 module _ (p st : List ℕ) (t : Record) where
-  pub refused-back : {ts us : List Test} {x y : After} → Meets (given p st t) ts us x y → {i : ℕ} {r : Reply} → first ts ≡ some i → r ≡ refused_back t i → after_of r p st ≡ y
+  abbrev g : Given
+  g = given p st t
+
+  pub refused-back : {ts us : List Test} {x y : After} → Meets g ts us x y → (r : Refusal) → first ts ≡ some (number_of r) → after_of (refused_back t r) p st ≡ y
   unfolding conclude
-  refused-back {ts} {us} m {i} e q = rw (q, m.concluded, first-left ts us i e)
+  refused-back {ts} {us} m r e = rw (m.concluded, first-left ts us (number_of r) e)
 
-  module _ {o : Opened} {s : Shape} {v : Verdict} (b : o ≡ opened p) (d : o ≡ Opening.Good s) (h : v ≡ verdict (first (front (given p st t)))) (f : v ≡ Good) where
-    done_below : {us : List Test} {x y z : After} → Meets (given p st t) (front (given p st t)) us x y → z ≡ conclude (given p st t) (first us) x → z ≡ y
-    done_below {us} m q = q ∙ rw (m.concluded, first-right (front (given p st t)) us (passed (given p st t) b d h f))
+  module _ (s : Shape) (e : answer (first (front g)) (shape_in p) ≡ good (shape_of s)) where
+    -- w: the pool as it was opened
+    pub call-judged : {w : List ℕ} → w ≡ p → Bytes st → Judged (shape_of s) w st t.count
+    call-judged b k = rw b (record-judged g (pool-opened g (front g) (live_tests g) refl s e) (record-passed g (front g) (live_tests g) refl s e) k)
 
-    pub staged-back : (k : Call) {st' : List ℕ} (x : Staged) {r : Reply} → left_of x st' ≡ planned (shape_of s) p st t.count k → r ≡ staged_back t x → after_of r p st' ≡ call (given p st t) k
+    done_below : {us : List Test} {x y z : After} → Meets g (front g) us x y → z ≡ conclude g (first us) x → z ≡ y
+    done_below {us} m q = q ∙ rw (m.concluded, first-right (front g) us (passed g (front g) (live_tests g) refl s e))
+
+    pub staged-back : {w : List ℕ} → w ≡ p → (k : Call) {st' : List ℕ} (r : Result Staged Refusal) → left_of t.count r st' ≡ planned (shape_of s) w st t.count k → after_of (staged_back t r) p st' ≡ call g k
     unfolding planned
-    staged-back k x q i =
-        done_below (call-meets (given p st t) k)
-        (rw i (ap left (q ∙ ap (λ (z : PoolShape). planned z p st t.count k) (record-shape (given p st t) (opens (given p st t) b d h f) (recorded (given p st t) b d h f))) ∙ both _ (pl (given p st t) k)))
+    staged-back b k {st'} r q =
+        done_below (call-meets g k)
+        (told r ∙ ap left ((rw b at q) ∙ ap (λ (z : PoolShape). planned z p st t.count k) (sym (same-shape g (front g) (live_tests g) refl s e))) ∙ both _ (pl g k))
       where
         left : Left → After
         left l = record { answer = l.answer; left = given p l.staging (record { id = t.id; count = l.count; phase = t.phase }) }
 
-        both : (o : Option ℕ) (l : Plan) → left (conclude_staged st t.count o l.answer l.entries) ≡ conclude (given p st t) o (record { answer = l.answer; left = staged (given p st t) l.entries })
-        both none l = unfold conclude_staged conclude staged in rw (is_open (given p st t) b d h f)
+        told : (r : Result Staged Refusal) → after_of (staged_back t r) p st' ≡ left (left_of t.count r st')
+        told (Ok x) = refl
+        told (Err x) = refl
+
+        both : (o : Option ℕ) (l : Plan) → left (conclude_staged st t.count o l.answer l.entries) ≡ conclude g o (record { answer = l.answer; left = staged g l.entries })
+        both none l = unfold conclude_staged conclude staged in rw (is_open g (passed-right (record_tests g) (live_tests g) (passed g (front g) (live_tests g) refl s e)))
         both (some i) l = unfold conclude_staged conclude in refl
 
-    pub started-back : (x : Stepped) {r : Reply} → x ≡ started_with t → r ≡ stepped_back x → after_of r p st ≡ commit_start (given p st t)
-    started-back x q i = done_below (start-meets (given p st t)) (rw (i, q) (both t.count refl))
+    pub started-back : (x : Stepped) → x ≡ started_with t → after_of (stepped_back t (Ok x)) p st ≡ commit_start g
+    started-back x q = done_below (start-meets g) (rw q (both t.count refl))
       where
-        both : (n : ℕ) → t.count ≡ n → after_of (stepped_back (started_with t)) p st ≡ conclude (given p st t) (first []) (begun (given p st t))
+        both : (n : ℕ) → t.count ≡ n → after_of (stepped_back t (Ok (started_with t))) p st ≡ conclude g (first []) (begun g)
         both zero i = unfold started_with start_answer start_phase conclude first in rw i
         both (suc n) i = unfold started_with start_answer start_phase conclude first in rw (i, ne_eqb (suc n) 0 (λ e. omega arith))
 
-pub stepped-back : {q st : List ℕ} {y : After} (x : Stepped) {r : Reply} → Commit.after_of x q st ≡ y → r ≡ stepped_back x → after_of r q st ≡ y
-stepped-back x h e = rw e h
+pub stepped-back : (t : Record) (r : Result Stepped Refusal) {q st : List ℕ} {y : After} → Commit.after_of t r q st ≡ y → after_of (stepped_back t r) q st ≡ y
+stepped-back t (Ok x) e = e
+stepped-back t (Err x) e = e

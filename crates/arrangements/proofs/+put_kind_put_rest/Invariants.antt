@@ -11,4 +11,4 @@ abbrev pub decreases-put_rest : goal.decreases-put_rest
 decreases-put_rest l = 2 * l.left + 1
 
 abbrev pub invariant-put_kind-loop-cells : goal.invariant-put_kind-loop-cells
-invariant-put_kind-loop-cells l = Printing l.initial.line l.at l.left l.free l.initial.out l.to l.line l.out l.next l.cells
+invariant-put_kind-loop-cells l = Printing l.initial.line l.left l.free l.initial.out l.line l.out l.cells

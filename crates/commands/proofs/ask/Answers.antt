@@ -1,6 +1,9 @@
 -- `commands::ask` meets its contract. Assumes nothing.
-use Rattle.commands.proofs.Handing.{ask-hands}
+use Rattle.commands.proofs.Handing.{ask-leaves}
 use Rattle.commands.proofs.ask.Goals as goal
 
 pub returns : goal.returns
-returns c = let p = c.put_line in ask-hands _ _ c.take-taken.ensures p.ensures.0 p.ensures.1
+returns c =
+    let t = c.take-taken.ensures in
+    let p = c.put_error.ensures in
+    ask-leaves _ _ _ t.error t.queue p.0 p.1

@@ -1,12 +1,13 @@
 -- `commands::recall` meets its contract. Assumes nothing.
-use Rattle.std.proofs.Common.{refl}
-use native.Mathlib.Omega.{arith}
-use Rattle.commands.proofs.Handing.{recall-fails-hands, recall-hands}
-use borrow.Author.Rules.{rules}
+use Rattle.std.proofs.lemmas.Result.{err_from_is_err_and}
+use Rattle.errors.specs.Meaning.{queue_in}
+use Rattle.commands.proofs.Handing.{recall-leaves, recall-refused-leaves}
 use Rattle.commands.proofs.recall.Goals as goal
 
-pub returns-in-Refused : goal.returns-in-Refused
-returns-in-Refused c = recall-fails-hands _ c.in-Refused.ensures.0 refl (search rules)
+pub returns-in_err-body : goal.returns-in_err-body
+returns-in_err-body c =
+    let p = err_from_is_err_and c.from_residual.result c.from_residual.ensures.1 in
+    rw (p.1, p.2) (λ queue staging out. recall-refused-leaves (queue_in queue) staging out c.in_err-body.ensures.0)
 
-pub returns-in-At : goal.returns-in-At
-returns-in-At c = recall-hands _ c.in-At.ensures.0 refl (omega arith) (omega arith) (search rules)
+pub returns : goal.returns
+returns c = λ queue staging out. recall-leaves (queue_in queue) staging out c.in_ok-body.ensures.0

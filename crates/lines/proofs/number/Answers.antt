@@ -1,24 +1,30 @@
 -- `lines::number` meets its contract. Assumes nothing.
+use mathlib.Core.Path.{sym, ◌∙◌}
+use Prim.Native.Nat.{◌+◌, ◌*◌}
 use native.Mathlib.Omega.{arith}
-use Rattle.lines.proofs.Numbers.{capping-cap, capping-end, capping-start, capping-step}
+use lib.ListN.{drop}
+use Rattle.lines.proofs.Numbers.{value-end, value-least, value-step}
 use Rattle.lines.proofs.number.Goals as goal
-use Rattle.lines.proofs.number.Goals.{then-v-gt10, else-v-gt10}
 
-pub loop-i-init : goal.loop-i-init
-loop-i-init c = capping-start _
+pub returns-then-n-gt9 : goal.returns-then-n-gt9
+returns-then-n-gt9 c =
+    let s = c.args.digits.now in
+    let l = c.loop-b in
+    let v = 10 * l.n + c.from.result in
+    let e = value-step s l.n l.b-index c.from.result c.loop-b-test.true (omega arith) in
+    let g = value-least (drop (l.b-index + 1) s) v in
+    λ h. omega (arith, e, g, l.invariant.rest)
 
-pub overflow_add-v : goal.overflow_add-v
-overflow_add-v c = omega (arith, c.shared_slice_known-in-loop-i-1.given c.loop-i.i)
-
-pub loop-i-preserved : goal.loop-i-preserved
-loop-i-preserved c =
-    let l = c.loop-i in
-    let t = c.loop-i-test.true in
-    let d = c.digit.ensures in
-    elim c.if-v-gt10.branch [
-      | then-v-gt10 w ↦ rw w.v-is (capping-cap l.invariant t d (omega arith))
-      | else-v-gt10 w ↦ rw w.v-is (capping-step l.invariant t d (omega arith))
-    ]
+pub loop-b-preserved : goal.loop-b-preserved
+loop-b-preserved c =
+    let l = c.loop-b in
+    record {
+      small = omega arith;
+      rest = sym (value-step c.args.digits.now l.n l.b-index c.from.result c.loop-b-test.true (omega arith)) ∙ l.invariant.rest;
+    }
 
 pub returns : goal.returns
-returns c = capping-end c.loop-i.invariant c.loop-i-test.false
+returns c =
+    let l = c.loop-b in
+    let e = value-end c.args.digits.now l.n l.b-index c.loop-b-test.false in
+    (omega (arith, e, l.invariant.small, l.invariant.rest), sym e ∙ l.invariant.rest)

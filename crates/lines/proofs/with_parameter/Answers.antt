@@ -1,15 +1,23 @@
 -- `lines::with_parameter` meets its contract. Assumes nothing.
 use mathlib.Core.Path.{sym, ◌∙◌}
 use native.Mathlib.Omega.{arith}
-use Rattle.lines.proofs.Numbers.{parameter-blank, parameter-none, parameter-other}
-use Rattle.lines.proofs.Words.{rest_all}
+use Rattle.std.proofs.lemmas.Result.{err_from_is_err_and}
+use Rattle.errors.specs.declared.Error.TheVariants.{MissingParameter}
+use Rattle.lines.proofs.Numbers.{error-given, parameter-blank, parameter-none, parameter-other}
 use Rattle.lines.proofs.with_parameter.Goals as goal
 
-pub returns-then-s-eq0 : goal.returns-then-s-eq0
-returns-then-s-eq0 c = sym (parameter-none _ _ (omega arith))
+pub returns-in_err-blank : goal.returns-in_err-blank
+returns-in_err-blank c =
+    let p = err_from_is_err_and c.from_residual.result c.from_residual.ensures.1 in
+    let n = rw c.in_err-blank.ensures.ok_part at c.split_first.ensures.cases in
+    error-given _ MissingParameter p.1 p.2 c.in_err-blank.ensures.value ∙ sym (parameter-none _ _ n)
 
-pub returns-then-s-ne32 : goal.returns-then-s-ne32
-returns-then-s-ne32 c = sym (parameter-other _ _ (omega arith) (omega arith))
+pub returns-then-blank-ne32 : goal.returns-then-blank-ne32
+returns-then-blank-ne32 c =
+    let n = rw c.in_ok-blank.ensures.ok_part at c.split_first.ensures.cases in
+    sym (parameter-other _ _ _ n.0 (omega arith))
 
 pub returns : goal.returns
-returns c = rw rest_all at c.with_number.ensures ∙ sym (parameter-blank _ _ (omega arith) (omega arith))
+returns c =
+    let n = rw c.in_ok-blank.ensures.ok_part at c.split_first.ensures.cases in
+    c.with_number.ensures ∙ sym (parameter-blank _ _ _ n.0 (omega arith))

@@ -9,11 +9,11 @@ use Rattle.pool.proofs.fill.Goals as goal
 
 pub put_header-requires : goal.put_header-requires
 put_header-requires c =
-    header-fits c.args.s c.requires.0 _ _ (search rules) (omega arith)
+    header-fits c.args.s _ _ (search rules) (omega arith)
 
 pub put_header-requires-2 : goal.put_header-requires-2
 put_header-requires-2 c =
-    header-fits c.args.s c.requires.0 _ _ (search rules) (omega arith)
+    header-fits c.args.s _ _ (search rules) (omega arith)
 
 pub returns : goal.returns
-returns c = fresh-stored (shape_of c.args.s) (shape-good c.args.s c.requires.0) c.args.id c.args.pool.now _ _ _ _ c.requires.0.paged c.requires.1 c.zero.ensures c.put_header.ensures c.put_header-2.ensures c.fill_zones.ensures
+returns c = fresh-stored (shape_of c.args.s) (shape-good c.args.s) c.args.id c.args.pool.now _ _ _ _ c.args.s.paged c.requires c.zero.ensures c.put_header.ensures c.put_header-2.ensures c.fill_zones.ensures

@@ -1,28 +1,20 @@
 -- `pool::fill_zones` meets its contract. Assumes nothing.
-use Prim.Native.Nat.{◌-◌}
 use native.Mathlib.Omega.{arith}
 use lib.Seq.{length-sets}
 use Rattle.rules.specs.Runs.{free_head}
 use borrow.Author.Rules.{rules}
 use Rattle.layout.specs.Meaning.{shape_of}
 use Rattle.layout.proofs.Range.{shape-good}
-use Rattle.pool.proofs.Fresh.{filling-end, filling-start, filling_step, zone-room}
+use Rattle.pool.proofs.Fresh.{filling-end, filling_step, zone-room}
 use Rattle.pool.proofs.fill_zones.Goals as goal
-
-pub loop-z-init : goal.loop-z-init
-loop-z-init c = filling-start (shape_of c.args.s) c.args.pool.now c.requires.1
 
 pub put_head-requires : goal.put_head-requires
 put_head-requires c = let l = c.loop-z in
-    omega (arith, zone-room (shape_of c.args.s) (shape-good c.args.s c.requires.0) l.z (search rules), l.invariant.length-is, c.zone_at-at.ensures, c.cells-cells.ensures)
-
-pub overflow_add-at : goal.overflow_add-at
-overflow_add-at c = let l = c.loop-z in
-    omega (arith, zone-room (shape_of c.args.s) (shape-good c.args.s c.requires.0) l.z (search rules), l.invariant.length-is, c.zone_at-at.ensures, c.cells-cells.ensures)
+    omega (arith, zone-room (shape_of c.args.s) (shape-good c.args.s) l.z (search rules), l.invariant.length-is, c.zone_at-at.ensures, c.cells-cells.ensures)
 
 pub put_head-requires-in-loop-z : goal.put_head-requires-in-loop-z
 put_head-requires-in-loop-z c = let l = c.loop-z in
-    omega (arith, zone-room (shape_of c.args.s) (shape-good c.args.s c.requires.0) l.z (search rules), l.invariant.length-is, c.zone_at-at.ensures, c.cells-cells.ensures, length-sets l.pool c.zone_at-at.result (free_head c.cells-cells.result))
+    omega (arith, zone-room (shape_of c.args.s) (shape-good c.args.s) l.z (search rules), l.invariant.length-is, c.zone_at-at.ensures, c.cells-cells.ensures, length-sets l.pool c.zone_at-at.result (free_head c.cells-cells.result))
 
 pub loop-z-preserved : goal.loop-z-preserved
 loop-z-preserved c =

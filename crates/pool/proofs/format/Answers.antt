@@ -1,23 +1,18 @@
 -- `pool::format` meets its contract. Assumes nothing.
-use mathlib.Core.Path.{refl, ◌∙◌}
-use Rattle.layout.proofs.Range.{made-good}
+use Rattle.std.proofs.lemmas.Result.{err_from_is_err_and}
 use Rattle.pool.proofs.Formatting.{format-taken, format-id, format-length, format-range}
 use Rattle.pool.proofs.format.Goals as goal
+
+pub returns-in_err-s : goal.returns-in_err-s
+returns-in_err-s c =
+    let p = err_from_is_err_and c.from_residual.result c.from_residual.ensures.1 in
+    rw (p.1, p.2) (format-range _ _ _ _ _ _ c.in_err-s.ensures.result_value)
 
 pub returns-then-id-eq0 : goal.returns-then-id-eq0
 returns-then-id-eq0 c = format-id _ _ _ _ _ c.if-id-eq0.true
 
-pub size-requires : goal.size-requires
-size-requires c = (made-good _ _ c.in-Good.ensures.result_value refl _ refl).1
-
 pub returns-then-pool-size : goal.returns-then-pool-size
-returns-then-pool-size c = format-length _ _ _ _ _ _ c.in-Good.ensures.result_value _ refl _ c.if-id-eq0.false c.size.ensures c.if-pool-size.true
+returns-then-pool-size c = format-length _ _ _ _ _ c.in_ok-s.s c.in_ok-s.ensures.result_value _ c.if-id-eq0.false c.size.ensures c.if-pool-size.true
 
-pub fill-requires : goal.fill-requires
-fill-requires c = ((made-good _ _ c.in-Good.ensures.result_value refl _ refl).1, c.if-pool-size.false ∙ c.size.ensures)
-
-pub returns-in-OutOfRange : goal.returns-in-OutOfRange
-returns-in-OutOfRange c = format-range _ _ _ _ _ _ c.in-OutOfRange.ensures.result_value refl
-
-pub returns-else-pool-size : goal.returns-else-pool-size
-returns-else-pool-size c = format-taken _ _ _ _ _ _ c.in-Good.ensures.result_value _ refl _ c.if-id-eq0.false c.size.ensures _ c.if-pool-size.false c.fill.ensures
+pub returns : goal.returns
+returns c = format-taken _ _ _ _ _ c.in_ok-s.s c.in_ok-s.ensures.result_value _ c.if-id-eq0.false c.size.ensures _ c.if-pool-size.false c.fill.ensures

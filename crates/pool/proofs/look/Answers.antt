@@ -1,26 +1,26 @@
 -- `pool::look` meets its contract. Assumes nothing.
 use Prim.Native.Nat.{ℕ, ◌+◌}
-use mathlib.Core.Path.{refl, ap, ◌∙◌}
+use mathlib.Core.Path.{ap, ◌∙◌}
 use native.Mathlib.Nat.{add_comm}
-use Rattle.pool.proofs.Looking.{look_bytes, look-empty, look-other, look-room, look-same}
 use native.Mathlib.Omega.{arith}
+use Rattle.pool.proofs.Looking.{look_bytes, look-empty, look-other, look-same}
 use Rattle.pool.proofs.look.Goals as goal
 
 pub overflow_add-result : goal.overflow_add-result
-overflow_add-result c = omega (arith, look-room _ _ _ _ c.in-At.ensures.1 refl)
+overflow_add-result c = omega (arith, c.in-Ok.ensures.1)
 
-pub slice_bounds-result-end-in-At : goal.slice_bounds-result-end-in-At
-slice_bounds-result-end-in-At c = omega (arith, look-room _ _ _ _ c.in-At.ensures.1 refl)
+pub slice_bounds-result-end : goal.slice_bounds-result-end
+slice_bounds-result-end c = omega (arith, c.in-Ok.ensures.1)
 
-pub returns-in-Refused : goal.returns-in-Refused
-returns-in-Refused c =
-    let e = c.in-Refused.ensures.0 in
-    (look-empty _ _ e _ _ refl, λ at n h. absurd (look-other _ _ e _ at n refl h))
+pub returns-in-Err : goal.returns-in-Err
+returns-in-Err c =
+    let e = c.in-Err.ensures.0 in
+    (look-empty _ _ _ e, λ at n h. absurd (look-other e h))
 
-pub returns-in-At : goal.returns-in-At
-returns-in-At c =
+pub returns-in-Ok : goal.returns-in-Ok
+returns-in-Ok c =
     let s = c.args.pool in
-    let e = c.in-At.ensures.0 in (
-      look_bytes _ _ e _ _ _ refl,
-      λ at n h. ap (λ (o : ℕ). (s.ref_ptr.0, o)) (add_comm _ s.ref_ptr.1 ∙ ap (λ (o : ℕ). s.ref_ptr.1 + o) (look-same _ _ e _ _ at n refl h)),
+    let e = c.in-Ok.ensures.0 in (
+      look_bytes _ _ _ _ e,
+      λ at n h. ap (λ (o : ℕ). (s.ref_ptr.0, o)) (add_comm _ s.ref_ptr.1 ∙ ap (λ (o : ℕ). s.ref_ptr.1 + o) (look-same e h)),
     )

@@ -1,15 +1,15 @@
 -- `pool::look_for` meets its contract. Assumes nothing.
 use mathlib.Core.Path.{sym}
-use Rattle.zones.specs.Body.{look_of}
+use Rattle.std.proofs.lemmas.Result.{err_from_is_err_and}
 use Rattle.pool.proofs.Looking.{look-found, look-refused}
-use Rattle.pool_log.proofs.Opening.{read-shaped}
 use Rattle.pool.proofs.look_for.Goals as goal
 
-pub body_at-requires : goal.body_at-requires
-body_at-requires c = read-shaped _ (sym c.in-Good.ensures)
+pub returns-in_err-pool : goal.returns-in_err-pool
+returns-in_err-pool c =
+    let p = err_from_is_err_and c.from_residual.result c.from_residual.ensures.1 in
+    rw (p.1, p.2) (look-refused _ _ _ (sym c.in_err-pool.ensures.shape), tt)
 
-pub returns-in-Refused : goal.returns-in-Refused
-returns-in-Refused c = (look-refused _ _ _ (sym c.in-Refused.ensures), tt)
-
-pub returns-in-Good : goal.returns-in-Good
-returns-in-Good c = (look-found _ (sym c.in-Good.ensures) (look_of c.body_at.result) _ c.body_at.ensures.0, c.body_at.ensures.1)
+pub returns : goal.returns
+returns c =
+    let b = rw c.in_ok-pool.ensures.bytes at c.body_at.ensures in
+    (look-found _ c.in_ok-pool.pool.shape _ (sym c.in_ok-pool.ensures.shape) b.0, b.1)

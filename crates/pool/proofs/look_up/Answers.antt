@@ -1,23 +1,13 @@
 -- `pool::look_up` meets its contract. Assumes nothing.
 use mathlib.Core.Path.{sym}
-use Rattle.pool_log.proofs.Opening.{read-shaped}
+use Rattle.std.proofs.lemmas.Result.{err_from_is_err_and}
 use Rattle.pool.proofs.LookingUp.{look-up-found, look-up-refused}
 use Rattle.pool.proofs.look_up.Goals as goal
 
-pub look_up-requires : goal.look_up-requires
-look_up-requires c = read-shaped _ (sym c.in-Good.ensures)
+pub returns-in_err-pool : goal.returns-in_err-pool
+returns-in_err-pool c =
+    let p = err_from_is_err_and c.from_residual.result c.from_residual.ensures.1 in
+    rw (p.1, p.2) (look-up-refused _ _ _ _ (sym c.in_err-pool.ensures.shape))
 
-pub returns-in-Refused : goal.returns-in-Refused
-returns-in-Refused c = look-up-refused _ _ _ _ (sym c.in-Refused.ensures)
-
-pub returns-in-At : goal.returns-in-At
-returns-in-At c =
-    look-up-found _ _ _ (sym c.in-Good.ensures) c.in-At.ensures
-
-pub returns-in-Absent : goal.returns-in-Absent
-returns-in-Absent c =
-    look-up-found _ _ _ (sym c.in-Good.ensures) c.in-Absent.ensures
-
-pub returns-in-Broken : goal.returns-in-Broken
-returns-in-Broken c =
-    look-up-found _ _ _ (sym c.in-Good.ensures) c.in-Broken.ensures
+pub returns : goal.returns
+returns c = look-up-found _ _ _ c.in_ok-pool.pool.shape (sym c.in_ok-pool.ensures.shape) (rw c.in_ok-pool.ensures.bytes at c.look_up.ensures)

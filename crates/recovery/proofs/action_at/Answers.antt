@@ -1,31 +1,21 @@
 -- `recovery::action_at` meets its contract. Assumes nothing.
+use mathlib.Core.Logic.{inl, inr}
 use mathlib.Core.Path.{ap}
-use Rattle.powercut.specs.Log.{from_a, from_b}
 use Rattle.powercut.specs.Steps.{recovery_steps}
-use Rattle.pool_log.proofs.Places.{at-log-a, at-log-b}
-use Rattle.recovery.specs.Meaning.{remedy_of}
+use Rattle.layout.proofs.Opening.{pool-shaped}
+use Rattle.recovery.specs.Meaning.{log_of, remedy_of}
 use Rattle.recovery.proofs.Stepping.{clear-action, no-action, replay-action, replay-ready}
 use Rattle.recovery.proofs.action_at.Goals as goal
 
 pub redo_action-requires : goal.redo_action-requires
-redo_action-requires c = (c.requires.0.range, replay-ready c.args.s _ _ _ c.requires.1 _ _ from_a c.log_a.ensures (ap remedy_of c.in-ReplayA.is) c.requires.0 (at-log-a c.log_a.ensures))
+redo_action-requires c = let l = log_of c.in-Replay.log in replay-ready c.args.pool.now.shape _ _ _ c.requires _ _ l c.log_at.ensures (ap remedy_of c.in-Replay.is) (pool-shaped c.args.pool.now)
 
-pub redo_action-requires-in-ReplayB : goal.redo_action-requires-in-ReplayB
-redo_action-requires-in-ReplayB c = (c.requires.0.range, replay-ready c.args.s _ _ _ c.requires.1 _ _ from_b c.log_b.ensures (ap remedy_of c.in-ReplayB.is) c.requires.0 (at-log-b c.log_b.ensures))
-
-pub returns-in-ReplayA : goal.returns-in-ReplayA
-returns-in-ReplayA c = replay-action c.args.s _ _ _ c.requires.1 _ _ from_a c.log_a.ensures (ap remedy_of c.in-ReplayA.is) _ _ c.redo_action.ensures
-
-pub returns-in-ReplayB : goal.returns-in-ReplayB
-returns-in-ReplayB c = replay-action c.args.s _ _ _ c.requires.1 _ _ from_b c.log_b.ensures (ap remedy_of c.in-ReplayB.is) _ _ c.redo_action-in-ReplayB.ensures
+pub returns-in-Replay : goal.returns-in-Replay
+returns-in-Replay c = replay-action c.args.pool.now.shape _ _ _ c.requires _ _ (log_of c.in-Replay.log) c.log_at.ensures (ap remedy_of c.in-Replay.is) _ _ c.redo_action.ensures
 
 pub returns-in-Clear : goal.returns-in-Clear
-returns-in-Clear c = clear-action c.args.s _ _ _ _ _ (ap remedy_of c.in-Clear.is) c.clear_action.ensures
+returns-in-Clear c = clear-action c.args.pool.now.shape _ _ _ _ _ (ap remedy_of c.in-Clear.is) c.clear_action.ensures
 
 pub returns-in-Nothing : goal.returns-in-Nothing
 unfolding recovery_steps
-returns-in-Nothing c = no-action c.args.s c.args.pool.now _ _ (remedy_of c.args.work) (rw c.in-Nothing.is)
-
-pub returns-in-Neither : goal.returns-in-Neither
-unfolding recovery_steps
-returns-in-Neither c = no-action c.args.s c.args.pool.now _ _ (remedy_of c.args.work) (rw c.in-Neither.is)
+returns-in-Nothing c = no-action c.args.pool.now.shape c.args.pool.now.bytes.now _ _ (remedy_of c.args.work) (elim c.in-Nothing.is [ inl e ↦ rw e | inr e ↦ rw e ])

@@ -3,7 +3,4 @@ use Rattle.recovery.proofs.Stepping.{finished-impossible}
 use Rattle.recovery.proofs.impossible.Goals as goal
 
 pub returns-in-Finished : goal.returns-in-Finished
-returns-in-Finished c = let a = c.args in finished-impossible a.s _ _ _ _ c.in-Finished.is c.many.ensures
-
-pub returns-in-Recovering : goal.returns-in-Recovering
-returns-in-Recovering c = rw c.in-Recovering.is c.impossible_at.ensures
+returns-in-Finished c = let a = c.args in finished-impossible a.pool.now.shape _ _ _ _ c.in-Finished.is c.many.ensures

@@ -9,10 +9,10 @@ pub returns-then-n-k : goal.returns-then-n-k
 returns-then-n-k c = search (rules, lost-past)
 
 pub load64-requires : goal.load64-requires
-load64-requires c = omega (arith, log-room c.args.s _ c.requires.0 _ c.requires.1)
+load64-requires c = omega (arith, log-room c.args.pool.now c.requires.0)
 
-pub returns-then-valid : goal.returns-then-valid
-returns-then-valid c = search (rules, lost-count)
+pub returns-then-not-valid : goal.returns-then-not-valid
+returns-then-not-valid c = search (rules, lost-invalid)
 
-pub returns : goal.returns
-returns c = search (rules, lost-invalid)
+pub returns-else-not-valid : goal.returns-else-not-valid
+returns-else-not-valid c = search (rules, lost-count)

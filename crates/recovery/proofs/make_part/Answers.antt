@@ -1,36 +1,36 @@
 -- `recovery::make_part` meets its contract. Assumes nothing.
-use mathlib.Core.Path.{ap}
-use Rattle.powercut.specs.Log.{from_a, from_b}
-use Rattle.powercut.specs.Steps.{recovery_steps}
-use Rattle.layout.specs.Meaning.{shape_of}
-use Rattle.pool_log.proofs.Places.{at-log-a, at-log-b}
-use Rattle.recovery.specs.Meaning.{remedy_of}
-use Rattle.recovery.proofs.Stepping.{clear-inside, none-to-do, replay-inside, replay-low, replay-ready}
-use Rattle.recovery.proofs.Parts.{clear-part, replay-part}
+use mathlib.Core.Path.{sym}
+use native.Mathlib.Omega.{arith}
+use Rattle.std.proofs.lemmas.Result.{err_from_is_err_and}
+use Rattle.layout.proofs.Opening.{open-shaped}
+use Rattle.recovery.proofs.Stepping.{advance-made, advance-refused, judged_same, on-possible, pool-refused, possible, record-refused}
 use Rattle.recovery.proofs.make_part.Goals as goal
 
-pub replay_part-requires : goal.replay_part-requires
-replay_part-requires c = let e = ap remedy_of c.in-ReplayA.is in let q = c.log_a-a.ensures in (c.requires.0.range, replay-ready c.args.s _ _ _ c.requires.1 _ _ from_a q e c.requires.0 (at-log-a q), replay-low c.args.s _ _ _ c.requires.1 _ _ from_a q e c.requires.0.range, replay-inside c.args.s _ _ _ c.requires.1 _ _ from_a q e)
+pub returns-in_err-opened : goal.returns-in_err-opened
+returns-in_err-opened c =
+    let p = err_from_is_err_and c.from_residual.result c.from_residual.ensures.1 in
+    rw (p.1, p.2) (advance-refused _ c.args.recovery _ (pool-refused _ c.args.recovery _ (sym c.in_err-opened.ensures.shape)))
 
-pub replay_part-requires-in-ReplayB : goal.replay_part-requires-in-ReplayB
-replay_part-requires-in-ReplayB c = let e = ap remedy_of c.in-ReplayB.is in let q = c.log_b-b.ensures in (c.requires.0.range, replay-ready c.args.s _ _ _ c.requires.1 _ _ from_b q e c.requires.0 (at-log-b q), replay-low c.args.s _ _ _ c.requires.1 _ _ from_b q e c.requires.0.range, replay-inside c.args.s _ _ _ c.requires.1 _ _ from_b q e)
+pub returns-in_err-k : goal.returns-in_err-k
+returns-in_err-k c =
+    let p = err_from_is_err_and c.from_residual-in_err-k.result c.from_residual-in_err-k.ensures.1 in
+    let o = c.in_ok-opened in
+    let j = judged_same o.opened.shape c.args.recovery o.ensures.bytes c.in_err-k.ensures.refusal in
+    rw (p.1, p.2) (advance-refused _ c.args.recovery _ (record-refused _ c.args.recovery o.opened.shape (sym o.ensures.shape) _ j))
 
-pub clear_part-requires : goal.clear_part-requires
-clear_part-requires c = (c.requires.0, clear-inside c.args.s _ _ _ c.requires.1 (ap remedy_of c.in-Clear.is))
+pub part_at-made-requires : goal.part_at-made-requires
+part_at-made-requires c =
+    let o = c.in_ok-opened in
+    let j = judged_same o.opened.shape c.args.recovery o.ensures.bytes c.in_ok-k.ensures.refusal in
+    (open-shaped _ _ (sym o.ensures.shape), on-possible o.opened.shape _ c.args.recovery j c.in_ok-k.ensures.place)
 
-pub returns-in-ReplayA : goal.returns-in-ReplayA
-returns-in-ReplayA c = replay-part (shape_of c.args.s) _ _ _ _ _ _ _ from_a c.log_a-a.ensures (ap remedy_of c.in-ReplayA.is) c.replay_part.ensures
+pub told-requires : goal.told-requires
+told-requires c =
+    let s = c.in_ok-opened.opened.shape in
+    (possible s _ _ _ (on-possible s _ c.args.recovery c.in_ok-k.ensures.refusal c.in_ok-k.ensures.place)).count
 
-pub returns-in-ReplayB : goal.returns-in-ReplayB
-returns-in-ReplayB c = replay-part (shape_of c.args.s) _ _ _ _ _ _ _ from_b c.log_b-b.ensures (ap remedy_of c.in-ReplayB.is) c.replay_part-in-ReplayB.ensures
-
-pub returns-in-Clear : goal.returns-in-Clear
-returns-in-Clear c = clear-part (shape_of c.args.s) _ _ _ _ _ (ap remedy_of c.in-Clear.is) c.clear_part.ensures
-
-pub returns-in-Nothing : goal.returns-in-Nothing
-unfolding recovery_steps
-returns-in-Nothing c = absurd (none-to-do c.args.s _ _ _ c.requires.1 (rw c.in-Nothing.is))
-
-pub returns-in-Neither : goal.returns-in-Neither
-unfolding recovery_steps
-returns-in-Neither c = absurd (none-to-do c.args.s _ _ _ c.requires.1 (rw c.in-Neither.is))
+pub returns : goal.returns
+returns c =
+    let o = c.in_ok-opened in
+    let j = judged_same o.opened.shape c.args.recovery o.ensures.bytes c.in_ok-k.ensures.refusal in
+    advance-made o.opened.shape _ c.args.recovery (sym o.ensures.shape) j c.in_ok-k.ensures.place _ _ _ _ c.part_at-made.ensures c.told.ensures (omega arith)

@@ -7,10 +7,6 @@ pub returns-then-k-n : goal.returns-then-k-n
 unfolding replied
 returns-then-k-n c = rw (← c.steps_of-n.ensures, eq-eqb _ _ c.if-k-n.true)
 
-pub returns-in-Store : goal.returns-in-Store
+pub returns : goal.returns
 unfolding replied
-returns-in-Store c = rw (← c.steps_of-n.ensures, ne_eqb _ _ c.if-k-n.false, c.in-Store.is)
-
-pub returns-in-Barrier : goal.returns-in-Barrier
-unfolding replied
-returns-in-Barrier c = rw (← c.steps_of-n.ensures, ne_eqb _ _ c.if-k-n.false, c.in-Barrier.is)
+returns c = rw (← c.steps_of-n.ensures, ne_eqb _ _ c.if-k-n.false, c.answer.ensures)

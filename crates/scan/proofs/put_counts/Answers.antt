@@ -3,9 +3,9 @@ use Rattle.scan.proofs.Scanning.{columns-low, counts-put}
 use borrow.Author.Rules.{rules}
 use Rattle.scan.proofs.put_counts.Goals as goal
 
-pub put_between-total-requires : goal.put_between-total-requires
-put_between-total-requires c = (search rules, search (rules, columns-low))
+pub put_between-requires : goal.put_between-requires
+put_between-requires c = (search rules, search (rules, columns-low))
 
 pub returns : goal.returns
 returns c =
-    counts-put _ _ c.wrong_columns-wrong.ensures c.pool_totals.ensures c.put_between-total.ensures c.put_total.ensures
+    counts-put _ _ c.wrong_columns-wrong.ensures c.pool_totals.ensures c.put_between.ensures c.put_total.ensures

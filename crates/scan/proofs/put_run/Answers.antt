@@ -1,24 +1,24 @@
 -- `scan::put_run` meets its contract. Assumes nothing.
-use Rattle.stage.proofs.Index.{indexed-none}
-use Rattle.scrub.proofs.Counting.{object-there, pool-passed}
-use Rattle.scan.proofs.Listing.{lined-broken, lined-free, lined-object}
+use mathlib.Core.Path.{ap, ◌∙◌}
+use native.Mathlib.Nat.{le_refl}
 use native.Mathlib.Omega.{arith}
+use Rattle.rules.specs.Scan.{run_line}
+use Rattle.stage.proofs.Views.{length-by}
+use Rattle.scrub.proofs.Counting.{head-there}
+use Rattle.texts.proofs.Adds.{adds_as}
+use Rattle.scan.proofs.Listing.{free-of, judged-line, object-of}
 use Rattle.scan.proofs.put_run.Goals as goal
 
-pub meet-m-requires : goal.meet-m-requires
-meet-m-requires c = (c.requires.1, c.requires.2, c.requires.3, indexed-none _ _)
+pub returns-then-run : goal.returns-then-run
+returns-then-run c =
+    adds_as c.put_free.ensures (ap (run_line c.args.z c.args.run.cell) (free-of c.args.zone.now c.args.run c.if-run.true)) (le_refl 64)
 
-pub returns-then-n-eq0 : goal.returns-then-n-eq0
-returns-then-n-eq0 c = lined-broken _ c.requires.2 c.requires.3 c.meet-m.ensures c.if-n-eq0.true _ c.put_broken-end.ensures
-
-pub put_free-end-requires : goal.put_free-end-requires
-put_free-end-requires c = let d = pool-passed _ c.requires.2 c.requires.3 c.meet-m.ensures c.if-n-eq0.false in (c.requires.0, omega (arith, d.within))
-
-pub returns-then-free : goal.returns-then-free
-returns-then-free c = let d = pool-passed _ c.requires.2 c.requires.3 c.meet-m.ensures c.if-n-eq0.false in lined-free d c.if-free.true c.put_free-end.ensures
-
-pub put_judged-end-requires : goal.put_judged-end-requires
-put_judged-end-requires c = let d = pool-passed _ c.requires.2 c.requires.3 c.meet-m.ensures c.if-n-eq0.false in (c.requires.0, c.requires.1, omega (arith, c.requires.2.even), object-there c.requires.2 d c.if-free.false)
+pub intact-good-requires : goal.intact-good-requires
+intact-good-requires c =
+    let o = head-there (c.requires.3 c.if-run.false) c.head-h.ensures in
+    (omega (arith, c.place_of.ensures, c.args.zone.now.zoned.even), omega (arith, c.place_of.ensures, o.0, length-by c.args.zone.now.view), o.1)
 
 pub returns : goal.returns
-returns c = let d = pool-passed _ c.requires.2 c.requires.3 c.meet-m.ensures c.if-n-eq0.false in lined-object d c.if-free.false c.put_judged-end.ensures
+returns c =
+    let j = judged-line _ _ (c.requires.3 c.if-run.false) c.head-h.ensures c.body.ensures.0 c.args.z c.args.run.cell (rw c.place_of.ensures at c.intact-good.ensures) c.tag.ensures in
+    adds_as c.put_object.ensures (j ∙ ap (run_line c.args.z c.args.run.cell) (object-of c.args.zone.now c.args.run c.if-run.false)) (le_refl 64)

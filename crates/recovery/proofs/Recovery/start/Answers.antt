@@ -1,18 +1,18 @@
 -- `recovery::Recovery::start` meets its contract. Assumes nothing.
-use Rattle.std.proofs.Common.{refl}
-use mathlib.Core.Path.{sym, ◌∙◌}
+use mathlib.Core.Path.{sym, ap, ◌∙◌}
+use Rattle.rules.specs.Header.{id_in}
+use Rattle.powercut.specs.Steps.{remedy}
+use Rattle.layout.specs.Meaning.{shape_of}
 use Rattle.recovery.proofs.Starting.{headers-room, start-begun, start-refused}
-use Rattle.layout.proofs.Opening.{open-shaped}
 use Rattle.recovery.proofs.Recovery.start.Goals as goal
 
 pub id-requires : goal.id-requires
-id-requires c = headers-room _ _ (open-shaped _ _ (sym c.in-Good.ensures ∙ refl))
+id-requires c = headers-room c.in-Ok.pool
 
-pub find-requires : goal.find-requires
-find-requires c = open-shaped _ _ (sym c.in-Good.ensures ∙ refl)
+pub returns-in-Err : goal.returns-in-Err
+returns-in-Err c = start-refused _ _ _ (sym c.in-Err.ensures.shape) c.refused.ensures
 
-pub returns-in-Refused : goal.returns-in-Refused
-returns-in-Refused c = start-refused _ _ _ (sym c.in-Refused.ensures ∙ refl) c.refused.ensures
-
-pub returns-in-Good : goal.returns-in-Good
-returns-in-Good c = start-begun _ _ _ c.find.result _ (sym c.in-Good.ensures ∙ refl) c.id.ensures c.find.ensures c.begin.ensures
+pub returns-in-Ok : goal.returns-in-Ok
+returns-in-Ok c =
+    let o = c.in-Ok in
+    start-begun _ o.pool.shape _ c.find.result _ (sym o.ensures.shape) (c.id.ensures ∙ ap id_in o.ensures.bytes) (c.find.ensures ∙ ap (remedy (shape_of o.pool.shape)) o.ensures.bytes) c.begin.ensures

@@ -1,8 +1,11 @@
 // The table that the program `demo` prints: a row for each part of a commit, with what was counted over the power cuts in it.
-use std::io;
+ghost use Rattle.std.specs.Prelude.{⊤};
 
-// What was counted over the cuts of one part of the commit.
-#[derive(Clone, Copy)]
+use std::io;
+use std::ops::Add;
+
+// What was counted over some cuts.
+#[derive(Clone, Copy, Default)]
 pub struct Tally {
     pub cuts: usize,
     pub old: usize,
@@ -11,133 +14,84 @@ pub struct Tally {
     pub clean: usize,
 }
 
-pub fn more(n: usize, b: bool) -> usize {
-    if b {
-        if n < 1000000 {
-            return n + 1;
+impl Add for Tally {
+    type Output = Tally;
+
+    ghost can_add = { λ _ _. ⊤ };
+
+    fn add(self, more: Tally) -> Tally {
+        Tally {
+            cuts: self.cuts.saturating_add(more.cuts),
+            old: self.old.saturating_add(more.old),
+            new: self.new.saturating_add(more.new),
+            done: self.done.saturating_add(more.done),
+            clean: self.clean.saturating_add(more.clean),
         }
     }
-    n
 }
 
-pub fn sum(a: usize, b: usize) -> usize {
-    if a < 1000000 {
-        if b < 1000000 {
-            return a + b;
-        }
-    }
-    a
+fn row(rt: &impl Print, name: &str, from: usize, to: usize, t: Tally) -> io::Result<()> {
+    let Tally {
+        cuts,
+        old,
+        new,
+        done,
+        clean,
+    } = t;
+    print!(rt; "{name}   {from:>4}   {to:>4}")?;
+    println!(rt; "   {cuts:>4}   {old:>4}   {new:>4}   {done:>4}   {clean:>4}")
 }
 
-pub fn none() -> Tally {
-    Tally {
-        cuts: 0,
-        old: 0,
-        new: 0,
-        done: 0,
-        clean: 0,
-    }
-}
-
-pub fn total(a: Tally, b: Tally) -> Tally {
-    Tally {
-        cuts: sum(a.cuts, b.cuts),
-        old: sum(a.old, b.old),
-        new: sum(a.new, b.new),
-        done: sum(a.done, b.done),
-        clean: sum(a.clean, b.clean),
-    }
-}
-
-// A number, right-aligned.
-fn column(rt: &impl Print, n: usize) -> io::Result<()> {
-    rt.write_all(b"   ")?;
-    if n < 1000 {
-        rt.write_all(b" ")?;
-    }
-    if n < 100 {
-        rt.write_all(b" ")?;
-    }
-    if n < 10 {
-        rt.write_all(b" ")?;
-    }
-    rt.print(n)
-}
-
-fn counts(rt: &impl Print, t: Tally) -> io::Result<()> {
-    column(rt, t.cuts)?;
-    column(rt, t.old)?;
-    column(rt, t.new)?;
-    column(rt, t.done)?;
-    column(rt, t.clean)
-}
-
-pub fn row(rt: &impl Print, name: &[u8], from: usize, to: usize, t: Tally) -> io::Result<()> {
-    rt.write_all(name)?;
-    column(rt, from)?;
-    column(rt, to)?;
-    counts(rt, t)?;
-    rt.write_all(b"\n")
-}
-
-// The row of a part of the commit, numbered from 0.
-fn part(rt: &impl Print, i: usize, from: usize, to: usize, t: Tally) -> io::Result<()> {
-    if i == 0 {
-        return row(rt, b"1 entries ", from, to, t);
-    }
-    if i == 1 {
-        return row(rt, b"2 seals   ", from, to, t);
-    }
-    if i == 2 {
-        return row(rt, b"3 data    ", from, to, t);
-    }
-    if i == 3 {
-        return row(rt, b"4 parity  ", from, to, t);
-    }
-    row(rt, b"5 clearing", from, to, t)
-}
+// The parts of the commit.
+const PARTS: [&str; 5] = [
+    "1 entries ",
+    "2 seals   ",
+    "3 data    ",
+    "4 parity  ",
+    "5 clearing",
+];
 
 // The table so far: the rows printed, the steps made up to the last row and by now, the counts since that row and in all.
 #[derive(Clone, Copy)]
 pub struct Table {
-    pub rows: usize,
-    pub from: usize,
-    pub made: usize,
-    pub tally: Tally,
-    pub all: Tally,
+    rows: usize,
+    from: usize,
+    made: usize,
+    tally: Tally,
+    all: Tally,
 }
 
-// The counts before one more step entered; at a barrier the row of the part that it ends is printed.
-pub fn entered(rt: &impl Print, t: Table, now: Tally, barrier: bool) -> io::Result<Table> {
-    let tally = total(t.tally, now);
-    let all = total(t.all, now);
-    let made = sum(t.made, 1);
-    if barrier {
-        part(rt, t.rows, t.from, t.made, tally)?;
-        return Ok(Table {
-            rows: sum(t.rows, 1),
-            from: made,
-            made,
-            tally: none(),
-            all,
-        });
+impl Table {
+    // Prints the heading.
+    pub fn new(rt: &impl Print) -> io::Result<Table> {
+        println!(rt; "part        from     to   cuts    old    new   done  clean")?;
+        Ok(Table {
+            rows: 0,
+            from: 0,
+            made: 0,
+            tally: Tally::default(),
+            all: Tally::default(),
+        })
     }
-    Ok(Table {
-        rows: t.rows,
-        from: t.from,
-        made,
-        tally,
-        all,
-    })
-}
 
-pub fn heading(rt: &impl Print) -> io::Result<Table> {
-    rt.write_all(b"part        from     to   cuts    old    new   done  clean\n")?;
-    Ok(Table {
-        rows: 0,
-        from: 0,
-        made: 0,
-        tally: none(),
-        all: none(),
-    })
+    // Enters the counts before one more step; at a barrier, as the step's answer tells, the row of the part that it ends is printed.
+    pub fn enter(&mut self, rt: &impl Print, now: Tally, barrier: bool) -> io::Result<()> {
+        self.tally = self.tally + now;
+        self.all = self.all + now;
+        let made = self.made.saturating_add(1);
+        if barrier && let Some(name) = PARTS.get(self.rows) {
+            row(rt, name, self.from, self.made, self.tally)?;
+            self.rows = self.rows.saturating_add(1);
+            self.from = made;
+            self.tally = Tally::default();
+        }
+        self.made = made;
+        Ok(())
+    }
+
+    // Prints the last two rows, with the counts after the last step.
+    pub fn end(self, rt: &impl Print, now: Tally) -> io::Result<()> {
+        row(rt, "committed ", self.made, self.made, now)?;
+        row(rt, "total     ", 0, self.made, self.all + now)
+    }
 }

@@ -3,53 +3,26 @@ use commands::Done;
 use errors::Queue;
 use std::io;
 
-fn printed(rt: &impl Print, done: Done, out: &[u8]) -> io::Result<()> {
-    match done {
-        Done::Printed(n) => {
-            if n <= out.len() {
-                rt.write_all(&out[0..n])?;
-            }
-        }
-        Done::Nothing => {}
-        Done::Saving(_) => {}
-        Done::Recalled(_, _) => {}
-    }
-    Ok(())
-}
-
 // Obeys a line, and prints what it prints; the queue then.
 fn obey(rt: &impl Print, line: &[u8], queue: Queue) -> io::Result<Queue> {
-    let setup = [0u8; 120];
-    let pool = [0u8; 0];
-    let mut staging = [0u8; 0];
     let mut out = [0u8; 32];
-    let obeyed = commands::obey(line, &setup, queue, &pool, &mut staging, &mut out);
-    let done = obeyed.done;
-    printed(rt, done, &out)?;
+    let obeyed = commands::obey(line, &[0; 120], queue, &[], &mut [], &mut out);
+    if let Done::Printed(n) = obeyed.done
+        && let Some(printed) = out.get(..n)
+    {
+        rt.write_all(printed)?;
+    }
     Ok(obeyed.queue)
 }
 
 // The same line eleven times.
 fn eleven(rt: &impl Print, line: &[u8], queue: Queue) -> io::Result<Queue> {
-    let mut q = queue;
-    let mut turns = 11usize;
-    while turns > 0 {
-        q = obey(rt, line, q)?;
-        turns -= 1;
-    }
-    Ok(q)
-}
-
-fn empty() -> Queue {
-    Queue {
-        errors: [0u16; 10],
-        count: 0,
-    }
+    (0..11).try_fold(queue, |queue, _| obey(rt, line, queue))
 }
 
 // Eleven errors, and eleven queries.
 pub fn overflow(rt: &impl Print) -> io::Result<()> {
-    let full = eleven(rt, b"*IDN?", empty())?;
+    let full = eleven(rt, b"*IDN?", Queue::new())?;
     eleven(rt, b"SYST:ERR?", full)?;
     Ok(())
 }
@@ -57,11 +30,11 @@ pub fn overflow(rt: &impl Print) -> io::Result<()> {
 // Eleven errors, and one that is none of the six: both queues count as empty, and an error then stands first.
 pub fn unfit(rt: &impl Print) -> io::Result<()> {
     let many = Queue {
-        errors: [113u16; 10],
+        errors: [113; 10],
         count: 11,
     };
     let other = Queue {
-        errors: [999u16; 10],
+        errors: [999; 10],
         count: 1,
     };
     obey(rt, b"SYST:ERR?", many)?;

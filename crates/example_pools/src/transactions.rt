@@ -1,47 +1,17 @@
 // Transactions begun on pool A and offered to B, of the same shape, and to S, a smaller one: refusal 11, and those before and after it.
-use examples::calls::allocate;
-use examples::report::{answer, check};
-use record::{Phase, Record};
+use examples::calls::{forged, say, told};
+use examples::report::check;
+use record::Phase;
 use std::io;
 use transaction::Transaction;
 
-fn begin(rt: &impl Print, name: &[u8], p: &[u8]) -> io::Result<Transaction> {
-    let r = Transaction::begin(p);
-    let a = r.answer;
-    answer(rt, name, a)?;
-    Ok(r.transaction)
-}
-
-fn commit(
-    rt: &impl Print,
-    name: &[u8],
-    t: Transaction,
-    p: &[u8],
-    s: &[u8],
-) -> io::Result<Transaction> {
-    let r = t.commit(p, s);
-    let a = r.answer;
-    answer(rt, name, a)?;
-    Ok(r.transaction)
-}
-
-fn advance(rt: &impl Print, name: &[u8], t: Transaction, p: &mut [u8], s: &[u8]) -> io::Result<()> {
-    let r = t.advance(p, s);
-    let a = r.answer;
-    answer(rt, name, a)
-}
-
 // The calls that stage or start a commit, on the pool given.
-fn offer(rt: &impl Print, name: &[u8], t: Transaction, p: &[u8], s: &mut [u8]) -> io::Result<()> {
-    allocate(rt, name, t, p, s, 5, b"a")?;
-    examples::calls::write(rt, b"  write: ", t, p, s, 0, 0, b"b")?;
-    offer_more(rt, t, p, s)
-}
-
-fn offer_more(rt: &impl Print, t: Transaction, p: &[u8], s: &mut [u8]) -> io::Result<()> {
-    examples::calls::free(rt, b"  free: ", t, p, s, 0)?;
-    commit(rt, b"  commit: ", t, p, s)?;
-    check(rt, b"  check of staging: ", s, 2032)
+fn offer(rt: &impl Print, name: &str, t: Transaction, p: &[u8], s: &mut [u8]) -> io::Result<()> {
+    say(rt, name, t.allocate(p, s, 5, b"a"))?;
+    say(rt, "  write: ", t.write(p, s, 0, 0, b"b"))?;
+    say(rt, "  free: ", t.free(p, s, 0))?;
+    told(rt, "  commit: ", t.commit(p, s))?;
+    check(rt, "  check of staging: ", s)
 }
 
 // An object staged on A; its record offered to B and S.
@@ -52,11 +22,12 @@ pub fn stages(
     small: &[u8],
     s: &mut [u8],
 ) -> io::Result<Transaction> {
-    let t = begin(rt, b"begin on A: ", a)?;
-    let t = allocate(rt, b"allocate tag 5, body 61 on A: ", t, a, s, 5, b"a")?;
-    check(rt, b"  check of staging: ", s, 2032)?;
-    offer(rt, b"allocate with that record on B: ", t, b, s)?;
-    offer(rt, b"allocate with that record on S: ", t, small, s)?;
+    let t = told(rt, "begin on A: ", Transaction::begin(a))?;
+    let r = t.allocate(a, s, 5, b"a");
+    let t = say(rt, "allocate tag 5, body 61 on A: ", r)?;
+    check(rt, "  check of staging: ", s)?;
+    offer(rt, "allocate with that record on B: ", t, b, s)?;
+    offer(rt, "allocate with that record on S: ", t, small, s)?;
     Ok(t)
 }
 
@@ -68,64 +39,55 @@ pub fn commits(
     b: &mut [u8],
     s: &[u8],
 ) -> io::Result<()> {
-    let t = commit(rt, b"commit on A: ", t, a, s)?;
-    advance(rt, b"  advance on B: ", t, b, s)?;
-    examples::calls::step(rt, b"  step on B: ", t, b, s)?;
-    examples::calls::step(rt, b"  step on A: ", t, a, s)?;
+    let t = told(rt, "commit on A: ", t.commit(a, s))?;
+    told(rt, "  advance on B: ", t.advance(b, s))?;
+    say(rt, "  step on B: ", t.step(b, s))?;
+    say(rt, "  step on A: ", t.step(a, s))?;
     Ok(())
 }
 
 // What begin refuses; what a refused begin hands back, offered to A. B has a seal set.
-pub fn begins(rt: &impl Print, a: &[u8], b: &[u8], s: &mut [u8]) -> io::Result<()> {
-    if 6143 <= a.len() {
-        begin(rt, b"begin on 6143 bytes: ", &a[0..6143])?;
-    }
-    begin(rt, b"begin without a header: ", &[0u8; 6144])?;
-    let t = begin(rt, b"begin with a seal set: ", b)?;
-    offer(rt, b"allocate with that record on A: ", t, a, s)
+pub fn begins(rt: &impl Print, a: &[u8; 6144], b: &[u8], s: &mut [u8]) -> io::Result<()> {
+    let r = Transaction::begin(&a[..6143]);
+    told(rt, "begin on 6143 bytes: ", r)?;
+    let r = Transaction::begin(&[0; 6144]);
+    told(rt, "begin without a header: ", r)?;
+    let t = told(rt, "begin with a seal set: ", Transaction::begin(b))?;
+    offer(rt, "allocate with that record on A: ", t, a, s)
 }
 
 // Refusals 29 and 21 stand after 11: a commit without entries closes at once, and B has a seal set.
 pub fn after(rt: &impl Print, a: &[u8], b: &[u8], s: &mut [u8]) -> io::Result<()> {
-    let t = begin(rt, b"begin on A: ", a)?;
-    allocate(rt, b"  open, on B with a seal set: ", t, b, s, 5, b"a")?;
-    let t = commit(rt, b"  commit: ", t, a, s)?;
-    allocate(rt, b"  closed, on B with a seal set: ", t, b, s, 5, b"a")?;
+    let t = told(rt, "begin on A: ", Transaction::begin(a))?;
+    let r = t.allocate(b, s, 5, b"a");
+    say(rt, "  open, on B with a seal set: ", r)?;
+    let t = told(rt, "  commit: ", t.commit(a, s))?;
+    let r = t.allocate(b, s, 5, b"a");
+    say(rt, "  closed, on B with a seal set: ", r)?;
     Ok(())
 }
 
 // Targets outside S; staging of 2,031 bytes.
-pub fn before(rt: &impl Print, a: &[u8], b: &[u8], small: &[u8], s: &mut [u8]) -> io::Result<()> {
-    let body = [90u8; 496];
-    let t = begin(rt, b"begin on A: ", a)?;
-    let t = allocate(rt, b"  allocate 496 bytes: ", t, a, s, 6, &body)?;
-    allocate(rt, b"  that record on S: ", t, small, s, 5, b"a")?;
-    short(rt, t, b, s)
-}
-
-fn short(rt: &impl Print, t: Transaction, b: &[u8], s: &mut [u8]) -> io::Result<()> {
-    if 2031 <= s.len() {
-        allocate(
-            rt,
-            b"  on B with staging of 2031 bytes: ",
-            t,
-            b,
-            &mut s[0..2031],
-            5,
-            b"a",
-        )?;
-    }
+pub fn before(
+    rt: &impl Print,
+    a: &[u8],
+    b: &[u8],
+    small: &[u8],
+    s: &mut [u8; 2032],
+) -> io::Result<()> {
+    let t = told(rt, "begin on A: ", Transaction::begin(a))?;
+    let r = t.allocate(a, s, 6, &[90; 496]);
+    let t = say(rt, "  allocate 496 bytes: ", r)?;
+    let r = t.allocate(small, s, 5, b"a");
+    say(rt, "  that record on S: ", r)?;
+    let r = t.allocate(b, &mut s[..2031], 5, b"a");
+    say(rt, "  on B with staging of 2031 bytes: ", r)?;
     Ok(())
 }
 
 // A count above 127.
 pub fn many(rt: &impl Print, b: &[u8], s: &mut [u8]) -> io::Result<()> {
-    let txn = Record {
-        id: 1,
-        count: 128,
-        phase: Phase::Open,
-    };
-    let t = Transaction { txn };
-    allocate(rt, b"128 entries of A on B: ", t, b, s, 5, b"a")?;
+    let t = forged(128, Phase::Open);
+    say(rt, "128 entries of A on B: ", t.allocate(b, s, 5, b"a"))?;
     Ok(())
 }

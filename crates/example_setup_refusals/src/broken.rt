@@ -24,7 +24,7 @@ fn broken(rt: &impl Print, p: &mut [u8]) -> io::Result<()> {
     recall(rt, p, 0)?;
     keep(rt, p, 0, 0)?;
     look_up(rt, p, 100, 0)?;
-    examples::report::body(rt, b"look at 0: ", p, 0)
+    examples::report::body(rt, "look at 0: ", p, 0)
 }
 
 pub fn cases(rt: &impl Print, p: &mut [u8]) -> io::Result<()> {

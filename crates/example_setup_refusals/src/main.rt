@@ -8,26 +8,26 @@ mod others; // objects with these tags that no save made
 mod broken; // two zones, one of them broken
 mod bad; // bad input
 
-use examples::report::outcome;
+use examples::calls::formatted;
 use std::io;
 
 fn on_damage(rt: &impl Print, p: &mut [u8]) -> io::Result<()> {
-    outcome(rt, b"format R 2, C 2, Z 1: ", pool::format(p, 2, 2, 1, 1))?;
+    formatted(rt, p, 2, 2, 1)?;
     damage::cases(rt, p)
 }
 
 fn on_others(rt: &impl Print, p: &mut [u8]) -> io::Result<()> {
-    outcome(rt, b"format R 2, C 2, Z 1: ", pool::format(p, 2, 2, 1, 1))?;
+    formatted(rt, p, 2, 2, 1)?;
     others::cases(rt, p)
 }
 
 fn on_broken(rt: &impl Print, p: &mut [u8]) -> io::Result<()> {
-    outcome(rt, b"format R 1, C 1, Z 2: ", pool::format(p, 1, 1, 2, 1))?;
+    formatted(rt, p, 1, 1, 2)?;
     broken::cases(rt, p)
 }
 
-fn on_bad(rt: &impl Print, p: &mut [u8]) -> io::Result<()> {
-    outcome(rt, b"format R 2, C 2, Z 1: ", pool::format(p, 2, 2, 1, 1))?;
+fn on_bad(rt: &impl Print, p: &mut [u8; 6144]) -> io::Result<()> {
+    formatted(rt, p, 2, 2, 1)?;
     bad::cases(rt, p)
 }
 

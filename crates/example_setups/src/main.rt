@@ -5,38 +5,34 @@
 mod table; // all ten
 mod cuts; // a save cut and recovered
 
-use examples::report::outcome;
+use examples::calls::formatted;
 use examples::saves::{keep, recall};
 use std::io;
+use std::ops::Range;
 
-// Each set-up from `first` up to the one before `end`, under its own number.
-fn keep_each(rt: &impl Print, p: &mut [u8], first: usize, end: usize) -> io::Result<()> {
-    let mut n = first;
-    while n < end {
-        keep(rt, p, n, n)?;
-        n += 1;
-    }
-    Ok(())
+// Each of these set-ups, under its own number.
+fn keep_each(rt: &impl Print, p: &mut [u8], mut numbers: Range<usize>) -> io::Result<()> {
+    numbers.try_for_each(|n| keep(rt, p, n, n))
 }
 
 fn check(rt: &impl Print, p: &[u8]) -> io::Result<()> {
-    examples::report::check(rt, b"  check of that pool: ", p, p.len())
+    examples::report::check(rt, "  check of that pool: ", p)
 }
 
 fn on_table(rt: &impl Print, p: &mut [u8]) -> io::Result<()> {
-    outcome(rt, b"format R 4, C 2, Z 1: ", pool::format(p, 4, 2, 1, 1))?;
+    formatted(rt, p, 4, 2, 1)?;
     table::cases(rt, p)
 }
 
 fn on_cuts(rt: &impl Print, p: &mut [u8]) -> io::Result<()> {
-    outcome(rt, b"format R 4, C 2, Z 1: ", pool::format(p, 4, 2, 1, 1))?;
+    formatted(rt, p, 4, 2, 1)?;
     cuts::cases(rt, p)
 }
 
 // There is room for five; one that is there is saved again even so.
 fn on_full(rt: &impl Print, p: &mut [u8]) -> io::Result<()> {
-    outcome(rt, b"format R 2, C 2, Z 1: ", pool::format(p, 2, 2, 1, 1))?;
-    keep_each(rt, p, 0, 6)?;
+    formatted(rt, p, 2, 2, 1)?;
+    keep_each(rt, p, 0..6)?;
     recall(rt, p, 5)?;
     keep(rt, p, 2, 99)?;
     recall(rt, p, 2)

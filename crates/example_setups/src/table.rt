@@ -6,9 +6,7 @@ use std::io;
 // Number 3 is the object at cell 0.
 fn head(rt: &impl Print, p: &[u8]) -> io::Result<()> {
     recall(rt, p, 3)?;
-    if p.len() == 7168 {
-        examples::report::hex(rt, b"  check in its head: ", words::load32(p, 4616))?;
-    }
+    examples::report::head(rt, p)?;
     check(rt, p)
 }
 
@@ -22,24 +20,12 @@ fn twice(rt: &impl Print, p: &mut [u8]) -> io::Result<()> {
 fn others(rt: &impl Print, p: &mut [u8]) -> io::Result<()> {
     recall(rt, p, 7)?;
     recall(rt, p, 10)?;
-    keep_each(rt, p, 0, 3)?;
-    keep_each(rt, p, 4, 10)
+    keep_each(rt, p, 0..3)?;
+    keep_each(rt, p, 4..10)
 }
 
 fn recall_each(rt: &impl Print, p: &[u8]) -> io::Result<()> {
-    let mut n = 0;
-    while n < 10 {
-        recall(rt, p, n)?;
-        n += 1;
-    }
-    Ok(())
-}
-
-// What poolscan prints of the pool.
-fn list(rt: &impl Print, p: &[u8]) -> io::Result<()> {
-    let mut out = [0u8; 65536];
-    let k = scan::text(p, &mut out);
-    rt.write_all(&out[0..k])
+    (0..10).try_for_each(|n| recall(rt, p, n))
 }
 
 pub fn cases(rt: &impl Print, p: &mut [u8]) -> io::Result<()> {
@@ -47,5 +33,5 @@ pub fn cases(rt: &impl Print, p: &mut [u8]) -> io::Result<()> {
     others(rt, p)?;
     recall_each(rt, p)?;
     check(rt, p)?;
-    list(rt, p)
+    examples::report::scan(rt, p)
 }

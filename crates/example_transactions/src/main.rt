@@ -2,81 +2,56 @@
 // printed is compared with the stored values in `stdout`, which were worked out apart from this code.
 #![tactic(auto)]
 
-use examples::calls::{allocate, begin, commit, free, look, write};
+use examples::calls::{begin, commit, look, say};
+use examples::memory::fresh;
+use examples::report::body;
 use std::io;
-use transaction::Transaction;
+use transaction::{Reply, Transaction};
 
-fn allocates(rt: &impl Print, p: &mut [u8], s: &mut [u8]) -> io::Result<()> {
-    let t = allocate(rt, b"allocate tag 5, body 61: ", begin(p), p, s, 5, b"a")?;
-    commit(rt, b"  commit: ", t, p, s, 771)?;
+// One call, its commit, and the object at cell 0 then.
+fn committed(rt: &impl Print, name: &str, r: Reply, p: &mut [u8], s: &[u8]) -> io::Result<()> {
+    let t = say(rt, name, r)?;
+    commit(rt, "  commit: ", t, p, s, 771)?;
     look(rt, p)
 }
 
-fn writes(rt: &impl Print, p: &mut [u8], s: &mut [u8]) -> io::Result<()> {
-    let t = write(rt, b"write 62 over it: ", begin(p), p, s, 0, 0, b"b")?;
-    commit(rt, b"  commit: ", t, p, s, 771)?;
-    look(rt, p)
+fn single(rt: &impl Print, p: &mut [u8], s: &mut [u8]) -> io::Result<()> {
+    let r = begin(p).allocate(p, s, 5, b"a");
+    committed(rt, "allocate tag 5, body 61: ", r, p, s)?;
+    let r = begin(p).write(p, s, 0, 0, b"b");
+    committed(rt, "write 62 over it: ", r, p, s)?;
+    let r = begin(p).free(p, s, 0);
+    committed(rt, "free it: ", r, p, s)
 }
 
-fn frees(rt: &impl Print, p: &mut [u8], s: &mut [u8]) -> io::Result<()> {
-    let t = free(rt, b"free it: ", begin(p), p, s, 0)?;
-    commit(rt, b"  commit: ", t, p, s, 771)?;
-    look(rt, p)
-}
-
-// Two objects, the second one with a body of `n` bytes: 432 touch 122 words, 433 touch 128.
-fn pair(
-    rt: &impl Print,
-    name: &[u8],
-    p: &mut [u8],
-    s: &mut [u8],
-    body: &[u8],
-    n: usize,
-) -> io::Result<()> {
-    pool::format(p, 2, 2, 1, 1);
-    both(rt, name, p, s, body, n)
-}
-
-fn both(
-    rt: &impl Print,
-    name: &[u8],
-    p: &mut [u8],
-    s: &mut [u8],
-    body: &[u8],
-    n: usize,
-) -> io::Result<()> {
-    let t = allocate(rt, b"body 496: ", begin(p), p, s, 6, body)?;
-    if n <= body.len() {
-        let t = allocate(rt, name, t, p, s, 7, &body[0..n])?;
-        commit(rt, b"  commit: ", t, p, s, 771)?;
-    }
-    Ok(())
+// Two objects in a fresh pool, the second one with a body of so many bytes: 432 touch 122 words, 433 touch 128.
+fn pair(rt: &impl Print, name: &str, p: &mut [u8], s: &mut [u8], second: &[u8]) -> io::Result<()> {
+    let _ = pool::format(p, 2, 2, 1, 1);
+    let t = say(rt, "body 496: ", begin(p).allocate(p, s, 6, &[90; 496]))?;
+    let t = say(rt, name, t.allocate(p, s, 7, second))?;
+    commit(rt, "  commit: ", t, p, s, 771)
 }
 
 // Later calls see what earlier ones staged: the new object at cell 8 is written over, and the one at 0 freed and its cells taken.
 fn together(rt: &impl Print, p: &mut [u8], s: &mut [u8]) -> io::Result<()> {
-    let t = allocate(rt, b"body 61 beside it: ", begin(p), p, s, 5, b"a")?;
-    let t = write(rt, b"and 62 over it: ", t, p, s, 8, 0, b"b")?;
+    let t = say(rt, "body 61 beside it: ", begin(p).allocate(p, s, 5, b"a"))?;
+    let t = say(rt, "and 62 over it: ", t.write(p, s, 8, 0, b"b"))?;
     let t = retaken(rt, t, p, s)?;
-    commit(rt, b"  commit: ", t, p, s, 771)?;
+    commit(rt, "  commit: ", t, p, s, 771)?;
     look(rt, p)?;
-    examples::report::body(rt, b"  look at 8: ", p, 8)
+    body(rt, "  look at 8: ", p, 8)
 }
 
 fn retaken(rt: &impl Print, t: Transaction, p: &[u8], s: &mut [u8]) -> io::Result<Transaction> {
-    let t = free(rt, b"and the one at 0 freed: ", t, p, s, 0)?;
-    allocate(rt, b"and its cells taken: ", t, p, s, 9, b"cde")
+    let t = say(rt, "and the one at 0 freed: ", t.free(p, s, 0))?;
+    say(rt, "and its cells taken: ", t.allocate(p, s, 9, b"cde"))
 }
 
 fn main(rt: HostRuntime) -> io::Result<()> {
-    let mut pool = [0u8; 6144];
+    let mut pool = fresh::<6144>(2, 2, 1);
     let mut staging = [7u8; 2032];
-    let body = [90u8; 496];
-    pool::format(&mut pool, 2, 2, 1, 1);
-    allocates(&rt, &mut pool, &mut staging)?;
-    writes(&rt, &mut pool, &mut staging)?;
-    frees(&rt, &mut pool, &mut staging)?;
-    pair(&rt, b"and body 432: ", &mut pool, &mut staging, &body, 432)?;
-    pair(&rt, b"and body 433: ", &mut pool, &mut staging, &body, 433)?;
+    single(&rt, &mut pool, &mut staging)?;
+    pair(&rt, "and body 432: ", &mut pool, &mut staging, &[90; 432])?;
+    pair(&rt, "and body 433: ", &mut pool, &mut staging, &[90; 433])?;
     together(&rt, &mut pool, &mut staging)
 }

@@ -1,19 +1,14 @@
 // Set-ups saved and recalled for the example programs: each call prints what it was asked and what it answers.
-use crate::report::{answer, number, told};
+use crate::calls::say;
+use crate::memory::ramp;
+use crate::report::{answer, refused};
 use std::io;
 use transaction::Transaction;
-use zones::Body;
 
 // Set-up `k`: the bytes k, k + 7, k + 14 and so on, modulo 256.
 pub fn setup(k: usize) -> [u8; 120] {
     let mut body = [0u8; 120];
-    let mut b = k % 256;
-    let mut i = 0;
-    while i < 120 {
-        body[i] = b as u8;
-        b = (b + 7) % 256;
-        i += 1;
-    }
+    ramp(&mut body, (k % 256) as u8);
     body
 }
 
@@ -25,10 +20,8 @@ pub fn save(
     n: usize,
     k: usize,
 ) -> io::Result<Transaction> {
-    let body = setup(k);
-    told(rt, b"save ", n)?;
-    told(rt, b", set-up ", k)?;
-    crate::calls::say(rt, b": ", setups::save(p, s, n, &body))
+    print!(rt; "save {n}, set-up {k}")?;
+    say(rt, ": ", setups::save(p, s, n, &setup(k)))
 }
 
 // The same, and that transaction committed.
@@ -36,23 +29,20 @@ pub fn keep(rt: &impl Print, p: &mut [u8], n: usize, k: usize) -> io::Result<()>
     let mut staging = [7u8; 2032];
     let t = save(rt, p, &mut staging, n, k)?;
     let r = saving::run(t, p, &staging);
-    let a = r.answer;
-    answer(rt, b"  commit: ", a)
+    answer(rt, "  commit: ", r.answer)
 }
 
 // Set-up `n` recalled: where its bytes lie, their number and their check; or the refusal.
 pub fn recall(rt: &impl Print, p: &[u8], n: usize) -> io::Result<()> {
-    told(rt, b"recall ", n)?;
+    print!(rt; "recall {n}")?;
     match setups::recall_for(p, n) {
-        Body::At(at, _) => {
-            told(rt, b": offset ", at)?;
-            bytes(rt, setups::recall(p, n))
-        }
-        Body::Refused(_) => number(rt, b": refused ", setups::recall_refusal(p, n) as usize),
+        Ok(body) => found(rt, body.at, setups::recall(p, n)),
+        Err(_) => refused(rt, ": ", setups::recall_refusal(p, n)),
     }
 }
 
-fn bytes(rt: &impl Print, part: &[u8]) -> io::Result<()> {
-    told(rt, b", length ", part.len())?;
-    crate::report::check(rt, b", check ", part, part.len())
+fn found(rt: &impl Print, at: usize, part: &[u8]) -> io::Result<()> {
+    let n = part.len();
+    let check = sums::check(part);
+    println!(rt; ": offset {at}, length {n}, check {check:08x}")
 }

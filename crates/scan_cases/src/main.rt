@@ -8,17 +8,15 @@
 //   full       R 2, C 2, Z 1: two objects of eight cells
 #![tactic(auto)]
 
+use examples::memory::{copy, fresh, set};
 use std::fs::File;
 use std::io;
 use std::rt::Files;
 
 // The text of `pool`, under its name.
-fn show(rt: &impl Print, name: &[u8], pool: &[u8]) -> io::Result<()> {
-    let mut out = [0u8; 65536];
-    let k = scan::text(pool, &mut out);
-    rt.write_all(name)?;
-    rt.write_all(b"\n")?;
-    rt.write_all(&out[0..k])
+fn show(rt: &impl Print, name: &str, pool: &[u8]) -> io::Result<()> {
+    println!(rt; "{name}")?;
+    examples::report::scan(rt, pool)
 }
 
 // The pool in the file `name`, of which 65,536 bytes are read at most.
@@ -29,66 +27,57 @@ fn show_file(rt: &(impl Print + Eprint + Files), name: &str) -> io::Result<()> {
         Err(e) => return rt.eprintln(format_args!("{name}: {e}")),
     };
     let n = reading::read_full(&mut file, &mut pool)?;
-    show(rt, name.as_bytes(), &pool[0..n])
+    show(rt, name, &pool[..n])
 }
 
-// A fresh pool of the least shape: 5,120 bytes, and one more.
-fn fresh() -> [u8; 5121] {
-    let mut pool = [0u8; 5121];
-    pool::format(&mut pool[0..5120], 1, 1, 1, 1);
-    pool
-}
-
-fn set(s: &mut [u8], at: usize, b: u8) {
-    if at < s.len() {
-        s[at] = b;
+// The fresh pool with the bytes at these places set to `b`.
+fn show_changed(rt: &impl Print, name: &str, places: &[usize], b: u8) -> io::Result<()> {
+    let mut pool = fresh::<5120>(1, 1, 1);
+    for &at in places {
+        set(&mut pool, at, b);
     }
+    show(rt, name, &pool)
 }
 
-// The fresh pool with other bytes at two places.
-fn show_changed(rt: &impl Print, name: &[u8], i: usize, j: usize, a: u8, b: u8) -> io::Result<()> {
-    let mut pool = fresh();
-    set(&mut pool, i, a);
-    set(&mut pool, j, b);
-    show(rt, name, &pool[0..5120])
-}
-
+// A fresh pool of the least shape, of which bytes are left out, and with one byte more.
 fn show_lengths(rt: &impl Print) -> io::Result<()> {
-    let pool = fresh();
-    show(rt, b"no bytes", &pool[0..0])?;
-    show(rt, b"511 bytes", &pool[0..511])?;
-    show(rt, b"512 bytes", &pool[0..512])?;
-    show(rt, b"5,119 bytes", &pool[0..5119])?;
-    show(rt, b"5,121 bytes", &pool[0..5121])
+    let mut pool = [0u8; 5121];
+    copy(&mut pool, &fresh::<5120>(1, 1, 1));
+    show(rt, "no bytes", &pool[0..0])?;
+    show(rt, "511 bytes", &pool[0..511])?;
+    show(rt, "512 bytes", &pool[0..512])?;
+    show(rt, "5,119 bytes", &pool[0..5119])?;
+    show(rt, "5,121 bytes", &pool)
 }
 
 // The longest pool that is scanned, and longer ones.
 fn show_longest(rt: &impl Print) -> io::Result<()> {
-    let mut longest = [0u8; 65536];
-    pool::format(&mut longest, 13, 17, 1, 1);
-    show(rt, b"65,536 bytes", &longest)?;
-    let mut longer = [0u8; 66048];
-    pool::format(&mut longer, 14, 16, 1, 1);
-    show(rt, b"65,537 bytes", &longer[0..65537])?;
-    show(rt, b"66,048 bytes", &longer)
+    show(rt, "65,536 bytes", &fresh::<65536>(13, 17, 1))?;
+    let longer = fresh::<66048>(14, 16, 1);
+    show(rt, "65,537 bytes", &longer[0..65537])?;
+    show(rt, "66,048 bytes", &longer)
 }
 
 fn main(rt: HostRuntime) -> io::Result<()> {
-    show_file(&rt, "fresh")?;
-    show_file(&rt, "objects")?;
-    show_file(&rt, "breaks")?;
-    show_file(&rt, "parity")?;
-    show_file(&rt, "stray")?;
-    show_file(&rt, "bench")?;
-    show_file(&rt, "full")?;
-    show_file(&rt, "different")?;
+    for name in [
+        "fresh",
+        "objects",
+        "breaks",
+        "parity",
+        "stray",
+        "bench",
+        "full",
+        "different",
+    ] {
+        show_file(&rt, name)?;
+    }
     show_lengths(&rt)?;
-    show_changed(&rt, b"first header invalid", 0, 0, 0, 0)?;
-    show_changed(&rt, b"second header invalid", 256, 256, 0, 0)?;
-    show_changed(&rt, b"both invalid", 0, 256, 0, 0)?;
-    show_changed(&rt, b"seal A", 519, 519, 1, 1)?;
-    show_changed(&rt, b"seal B", 2560, 2560, 1, 1)?;
-    show_changed(&rt, b"seals empty, logs not", 520, 2568, 1, 1)?;
-    show_changed(&rt, b"the only zone broken", 4608, 4864, 0, 0)?;
+    show_changed(&rt, "first header invalid", &[0], 0)?;
+    show_changed(&rt, "second header invalid", &[256], 0)?;
+    show_changed(&rt, "both invalid", &[0, 256], 0)?;
+    show_changed(&rt, "seal A", &[519], 1)?;
+    show_changed(&rt, "seal B", &[2560], 1)?;
+    show_changed(&rt, "seals empty, logs not", &[520, 2568], 1)?;
+    show_changed(&rt, "the only zone broken", &[4608, 4864], 0)?;
     show_longest(&rt)
 }

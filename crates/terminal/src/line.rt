@@ -5,25 +5,16 @@ use std::fs::OpenFile;
 use std::io;
 use std::io::{Seek, Write};
 
-// The errors that wait, and whether another line is to be read.
-#[derive(Clone, Copy)]
-pub struct Next {
-    pub queue: Queue,
-    pub going: bool,
-}
-
 // The set-up of `n` bytes at this place of the pool becomes the present one.
 fn recalled(setup: &mut [u8], pool: &[u8], at: usize, n: usize) {
-    if at <= pool.len() {
-        if n <= pool.len() - at {
-            crate::panel::set(setup, &pool[at..at + n]);
-        }
+    if at <= pool.len() && n <= pool.len() - at {
+        crate::panel::set(setup, &pool[at..at + n]);
     }
 }
 
 fn printed(rt: &impl Print, out: &[u8], n: usize) -> io::Result<()> {
     if n <= out.len() {
-        rt.write_all(&out[0..n])?;
+        rt.write_all(&out[..n])?;
     }
     Ok(())
 }
@@ -39,17 +30,12 @@ fn carry_out<F: Write + Seek + OpenFile>(
     out: &[u8],
 ) -> io::Result<bool> {
     match done {
-        Done::Nothing => Ok(true),
-        Done::Saving(txn) => crate::steps::commit(rt, file, pool, txn, staging),
-        Done::Recalled(at, n) => {
-            recalled(setup, pool, at, n);
-            Ok(true)
-        }
-        Done::Printed(n) => {
-            printed(rt, out, n)?;
-            Ok(true)
-        }
+        Done::Nothing => {}
+        Done::Saving(txn) => return crate::steps::commit(rt, file, pool, txn, staging),
+        Done::Recalled(body) => recalled(setup, pool, body.at, body.length),
+        Done::Printed(n) => printed(rt, out, n)?,
     }
+    Ok(true)
 }
 
 // Obeys a command line.
@@ -60,17 +46,16 @@ fn obey<F: Write + Seek + OpenFile>(
     setup: &mut [u8],
     queue: Queue,
     line: &[u8],
-) -> io::Result<Next> {
+) -> io::Result<Option<Queue>> {
     let mut staging = [0u8; 2032];
     let mut out = [0u8; 32];
     let obeyed = commands::obey(line, setup, queue, pool, &mut staging, &mut out);
     let done = obeyed.done;
     let going = carry_out(rt, file, pool, setup, done, &staging, &out)?;
-    let queue = obeyed.queue;
-    Ok(Next { queue, going })
+    Ok(going.then_some(obeyed.queue))
 }
 
-// A line is the front panel's or a command.
+// A line is the front panel's or a command. The errors that wait then; none where no other line is to be read.
 pub fn take<F: Write + Seek + OpenFile>(
     rt: &(impl Print + Eprint),
     file: &mut Option<F>,
@@ -78,10 +63,10 @@ pub fn take<F: Write + Seek + OpenFile>(
     setup: &mut [u8],
     queue: Queue,
     line: &[u8],
-) -> io::Result<Next> {
-    if crate::panel::is_for(line) {
-        crate::panel::take(rt, setup, line)?;
-        return Ok(Next { queue, going: true });
+) -> io::Result<Option<Queue>> {
+    if let [b'>', text @ ..] = line {
+        crate::panel::take(rt, setup, text)?;
+        return Ok(Some(queue));
     }
     obey(rt, file, pool, setup, queue, line)
 }

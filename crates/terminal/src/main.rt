@@ -8,14 +8,14 @@ mod panel; // the present set-up
 mod steps; // recovery and commits, the file written at each barrier
 mod typed; // lines as they come
 
-use crate::line::Next;
 use errors::Queue;
+use refusals::Refusal;
 use std::fs::{OpenFile, OpenOptions};
 use std::io::{ErrorKind, Read, Seek, Write};
 use std::rt::Files;
 use std::{env, io};
 
-// Reads a line and takes it.
+// Reads a line and takes it. The errors that wait then; none where no other line is to be read.
 fn turn<F: Write + Seek + OpenFile>(
     rt: &(impl Print + Eprint),
     input: &mut impl Read,
@@ -23,20 +23,15 @@ fn turn<F: Write + Seek + OpenFile>(
     pool: &mut [u8],
     setup: &mut [u8],
     queue: Queue,
-) -> io::Result<Next> {
+) -> io::Result<Option<Queue>> {
     let mut buf = [0u8; 256];
-    let typed = typed::read_line(input, &mut buf);
-    if typed.ended {
-        return Ok(Next {
-            queue,
-            going: false,
-        });
+    match typed::read_line(input, &mut buf) {
+        Some(line) => line::take(rt, file, pool, setup, queue, line),
+        None => Ok(None),
     }
-    let n = typed.length;
-    line::take(rt, file, pool, setup, queue, &buf[..n])
 }
 
-// Takes lines until the input ends. The loop counts its turns down, from a number that no run uses up.
+// Takes lines until the input ends. No run has as many lines as the loop may take.
 fn talk<F: Write + Seek + OpenFile>(
     rt: &(impl Print + Eprint + Input),
     file: &mut Option<F>,
@@ -44,18 +39,13 @@ fn talk<F: Write + Seek + OpenFile>(
 ) -> io::Result<()> {
     let mut input = rt.reader();
     let mut setup = [b' '; 120];
-    let mut queue = Queue {
-        errors: [0u16; 10],
-        count: 0,
-    };
-    let mut turns = u64::MAX;
-    while turns > 0 {
-        let next = turn(rt, &mut input, file, pool, &mut setup, queue)?;
-        if !next.going {
-            return Ok(());
+    let mut queue = Queue::new();
+    // By number, which alone tells that the loop ends: what comes is no items.
+    for _ in 0..u64::MAX {
+        match turn(rt, &mut input, file, pool, &mut setup, queue)? {
+            Some(left) => queue = left,
+            None => break,
         }
-        queue = next.queue;
-        turns -= 1;
     }
     Ok(())
 }
@@ -71,10 +61,10 @@ fn serve<F: Write + Seek + OpenFile>(
     Ok(())
 }
 
-// A fresh pool, with room for all ten set-ups.
+// A fresh pool, with room for all ten set-ups. `examples::memory::fresh` is another: this program stands on no crate that is for the examples.
 fn fresh() -> [u8; 7168] {
     let mut pool = [0u8; 7168];
-    pool::format(&mut pool, 4, 2, 1, 1);
+    let _ = pool::format(&mut pool, 4, 2, 1, 1);
     pool
 }
 
@@ -105,11 +95,9 @@ fn in_new_file<R: Print + Eprint + Input + Files>(rt: &R, path: &str) -> io::Res
 // The pool that the file keeps; more than 65,536 bytes are refusal 2.
 fn in_file<R: Print + Eprint + Input + Files>(rt: &R, mut file: R::File) -> io::Result<()> {
     let mut pool = [0u8; 65536];
-    let mut more = [0u8; 1];
-    let n = reading::read_full(&mut file, &mut pool)?;
-    if 0 < reading::read_full(&mut file, &mut more)? {
-        return steps::refused(rt, 2);
-    }
+    let Some(n) = reading::read_whole(&mut file, &mut pool)? else {
+        return steps::refused(rt, Refusal::Length);
+    };
     serve(rt, &mut Some(file), &mut pool[..n])
 }
 

@@ -31,14 +31,11 @@ fn show_short(rt: &impl Print, input: &[u8], out: &mut [u8]) -> io::Result<()> {
 }
 
 fn show_lengths(rt: &impl Print) -> io::Result<()> {
-    measure(rt, b"1\n")?;
-    measure(rt, b"2\n")?;
-    measure(rt, b"3\n")?;
-    measure(rt, b"4\n")?;
-    measure(rt, b"5\n")?;
-    measure(rt, b"6\n")?;
-    measure(rt, b"7\n")?;
-    measure(rt, b"8\n")
+    // The number is the digit itself, the input's first byte.
+    for cells in b'1'..=b'8' {
+        measure(rt, &[cells, b'\n'])?;
+    }
+    Ok(())
 }
 
 fn show_other_bytes(rt: &impl Print) -> io::Result<()> {

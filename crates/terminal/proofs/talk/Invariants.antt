@@ -1,5 +1,0 @@
--- `terminal::talk` is safe and ends. Assumes nothing.
-use Rattle.terminal.proofs.talk.Given as goal
-
-abbrev pub decreases-loop-turns : goal.decreases-loop-turns
-decreases-loop-turns g l = l.turns

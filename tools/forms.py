@@ -20,7 +20,7 @@ LINES = [
     (1, "a kind compared with a number's name", r"kind\(\w+\) == "),
     (1, "constants in place of an enum", r"pub const \w+: (u16|usize) = \d+;"),
     (3, "while", r"^\s*('\w+: )?while "),
-    (3, "for over a range", r"^\s*for \w+ in .*\.\."),
+    (3, "for over a range", r"^\s*('\w+: )?for \w+ in [^\[]*\.\."),
     (4, "conversions by hand", r"fn (\w+_in|\w+_out|decoded|encoded|told|part_of|refusal|kind|value|number|digit)\("),
     (4, "equality by hand", r"fn (pages_same|is_word|stands_for|same|is_\w+)\("),
     (6, "a buffer with its length beside", r"staging: &(mut )?\[u8\], (index: &\[u8\], )?count: usize|errors: \[u16; 10\],|line: &(mut )?\[u8\], at: usize"),

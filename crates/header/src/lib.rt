@@ -58,13 +58,13 @@ fn check_ok(h: &[u8]) -> bool
     words::load32(h, 16) == u64::from(sums::check(&h[..16]))
 }
 
-// Whether the rest is zero: 4 bytes, then words to the page's end. No way out before the end, so that the compiler takes many bytes at once.
+// Whether the rest is zero: 4 bytes, then words to the page's end, which is told, and no way out before it, so that the compiler takes many bytes at once.
 fn rest_ok(h: &[u8]) -> bool
     requires { length h.now ≡ page_size }
     ensures { result ≡ same (drop 20 h.now) (replicate (page_size - 20) 0) }
 {
     let mut bits = words::load32(h, 20);
-    for word in h[24..].chunks_exact(8) {
+    for word in h[24..256].chunks_exact(8) {
         bits |= words::load64(word, 0);
     }
     bits == 0

@@ -74,6 +74,7 @@ impl<'a> Zone<'a> {
     }
 
     // The run at cell `cell`, behind a free run or not; none where the zone is broken there.
+    #[inline(always)] // as `next`, which a walk makes at each run
     pub fn meet(&self, cell: usize, after: bool) -> Option<Run>
         requires { cell < self.now.cells }
         ensures { Meets (seen_by self.now.view) self.now.from self.now.cells cell after result }
@@ -196,6 +197,7 @@ impl Iterator for Runs<'_> {
 
     ghost remaining = { λ s. at_most (s.zone.cells - s.cell) };
 
+    #[inline(always)] // else a walk hands each run on through memory; so is `meet`
     fn next(&mut self) -> Option<Option<Run>> {
         if self.zone.cells <= self.cell {
             return None;

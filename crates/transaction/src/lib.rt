@@ -75,6 +75,7 @@ fn stepped(txn: Record, made: Result<Stepped, Refusal>) -> Reply
 }
 
 // The pool's shape, or the first of refusals 2, 3, 4, 2, 9, 10, 11.
+#[inline(always)] // else the shape goes through memory, a third of the time of a step of one entry
 fn judge(pool: &[u8], staging: &[u8], txn: Record) -> Result<Shape, Refusal>
     ensures { checked_of result ≡ answer (first (record_tests (given pool.now staging.now txn))) (shape_in pool.now) }
 {
@@ -85,6 +86,7 @@ fn judge(pool: &[u8], staging: &[u8], txn: Record) -> Result<Shape, Refusal>
 
 // The pool for a call that stages words or starts a commit, or the first of these and then 29, 21. Not one function with `judge`: a step stores into the
 // pool, which a `Pool` would lend.
+#[inline(always)] // as `judge`
 fn ready<'a>(bytes: &'a [u8], staging: &[u8], txn: Record) -> Result<Pool<'a>, Refusal>
     ensures shape { opened_of result ≡ answer (first (record_tests (given bytes.now staging.now txn) ++ live_tests (given bytes.now staging.now txn))) (shape_in bytes.now) }
     ensures bytes { IfOk result (λ p. p.bytes.now ≡ bytes.now) }

@@ -13,8 +13,7 @@ pub loop-word-init : goal.loop-word-init
 loop-word-init c =
     let h = c.args.h.now in
     let i = c.chunks_exact-word-items.ensures in
-    let n = c.requires in
-    rw (c.into_iter-word-iterator.ensures.into_iter_gives, i.rest, i.size, n)
+    rw (c.into_iter-word-iterator.ensures.into_iter_gives, i.rest, i.size)
     (refl, omega (arith, part_length h 24 232 (omega arith)), zeros-join page_size 4 0 h 20 (omega arith) c.load32-bits.ensures.value)
 
 pub loop-word-preserved : goal.loop-word-preserved

@@ -2,12 +2,12 @@
 // alone. No function has a `requires`: each answers for all inputs.
 #![tactic(auto)]
 
-ghost use Rattle.std.specs.Prelude.{◌≡◌, ℕ, List, Ok};
+ghost use Rattle.std.specs.Prelude.{◌≡◌, ℕ, List};
+ghost use Rattle.errors.specs.Errors as Errors;
 ghost use Rattle.errors.specs.Meaning.{queue_in};
-ghost use Rattle.errors.specs.declared.Queue as Code;
 ghost use Rattle.setups.specs.Setups.{recalled, saved};
 ghost use Rattle.commands.specs.Obey.{after_recall, after_save, answered, obeyed};
-ghost use Rattle.commands.specs.Meaning.{done_of, handed, left_by};
+ghost use Rattle.commands.specs.Meaning.{done_of, handed, handed_by, left_by};
 
 use answers::Answer;
 use errors::{Error, Queue};
@@ -33,7 +33,7 @@ pub struct Obeyed {
 
 // Stages set-up `n`.
 fn save(pool: &[u8], staging: &mut [u8], n: usize, setup: &[u8]) -> Result<Done, Error>
-    ensures { (queue : Code.Queue) (out : List ℕ) → left_by result queue staging.new out ≡ after_save (queue_in queue) staging.old out (saved pool.now staging.old n setup.now) }
+    ensures { (queue : Errors.Queue) (out : List ℕ) → left_by result queue staging.new out ≡ after_save queue staging.old out (saved pool.now staging.old n setup.now) }
 {
     let reply = setups::save(pool, staging, n, setup);
     if let Answer::Refused(refusal) = reply.answer {
@@ -44,36 +44,48 @@ fn save(pool: &[u8], staging: &mut [u8], n: usize, setup: &[u8]) -> Result<Done,
 
 // Tells where set-up `n` lies.
 fn recall(pool: &[u8], n: usize) -> Result<Done, Error>
-    ensures { (queue : Code.Queue) (staging out : List ℕ) → left_by result queue staging out ≡ after_recall (queue_in queue) staging out (recalled pool.now n) }
+    ensures { (queue : Errors.Queue) (staging out : List ℕ) → left_by result queue staging out ≡ after_recall queue staging out (recalled pool.now n) }
 {
     let body = setups::recall_for(pool, n)?;
     Ok(Done::Recalled(body))
 }
 
-// Takes the oldest error out and prints its line.
-fn ask(queue: &mut Queue, out: &mut [u8]) -> Done
-    ensures { (staging : List ℕ) → left_by (Ok result) queue.new staging out.new ≡ answered (queue_in queue.old) staging out.old }
+// The queue handed back beside what was done; no error is entered.
+fn without_error(queue: Queue, done: Done) -> Obeyed
+    ensures { (staging out : List ℕ) → (result.queue, done_of result.done, staging, out) ≡ handed (record { queue = queue_in queue; done = done_of done; staging = staging; out = out }) }
 {
-    let taken = queue.take();
-    *queue = taken.queue;
-    Done::Printed(errors::put_error(out, taken.error))
+    Obeyed {
+        queue: queue.judged(),
+        done,
+    }
 }
 
-// Carries out a line, or tells its error.
+// Takes the oldest error out and prints its line.
+fn ask(queue: Queue, out: &mut [u8]) -> Obeyed
+    ensures { (staging : List ℕ) → (result.queue, done_of result.done, staging, out.new) ≡ handed (answered (queue_in queue) staging out.old) }
+{
+    let taken = queue.take();
+    Obeyed {
+        queue: taken.queue,
+        done: Done::Printed(errors::put_error(out, taken.error)),
+    }
+}
+
+// Carries out a line, or tells its error, which is still to be entered.
 fn carry_out(
     line: &[u8],
     setup: &[u8],
-    queue: &mut Queue,
+    queue: Queue,
     pool: &[u8],
     staging: &mut [u8],
     out: &mut [u8],
-) -> Result<Done, Error>
-    ensures { left_by result queue.new staging.new out.new ≡ obeyed line.now setup.now (queue_in queue.old) pool.now staging.old out.old }
+) -> Result<Obeyed, Error>
+    ensures { handed_by result (queue_in queue) staging.new out.new ≡ handed (obeyed line.now setup.now (queue_in queue) pool.now staging.old out.old) }
 {
     match lines::read(line)? {
-        Command::Nothing => Ok(Done::Nothing),
-        Command::Save(n) => save(pool, staging, n, setup),
-        Command::Recall(n) => recall(pool, n),
+        Command::Nothing => Ok(without_error(queue, Done::Nothing)),
+        Command::Save(n) => Ok(without_error(queue, save(pool, staging, n, setup)?)),
+        Command::Recall(n) => Ok(without_error(queue, recall(pool, n)?)),
         Command::Query => Ok(ask(queue, out)),
     }
 }
@@ -89,14 +101,10 @@ pub fn obey(
 ) -> Obeyed
     ensures { (result.queue, done_of result.done, staging.new, out.new) ≡ handed (obeyed line.now setup.now (queue_in queue) pool.now staging.old out.old) }
 {
-    let mut left = queue;
-    match carry_out(line, setup, &mut left, pool, staging, out) {
-        Ok(done) => Obeyed {
-            queue: left.judged(),
-            done,
-        },
+    match carry_out(line, setup, queue, pool, staging, out) {
+        Ok(obeyed) => obeyed,
         Err(e) => Obeyed {
-            queue: left.enter_error(e),
+            queue: queue.enter_error(e),
             done: Done::Nothing,
         },
     }

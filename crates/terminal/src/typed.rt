@@ -1,5 +1,5 @@
 // Lines as they come: one byte a read, so that each line is answered before the next is typed.
-ghost use Rattle.std.specs.Prelude.{◌≤◌, length};
+ghost use Rattle.std.specs.Prelude.{◌≡◌, ◌≤◌, ⊤, length, MatchOption};
 
 use std::io::Read;
 
@@ -25,8 +25,10 @@ fn put(buf: &mut [u8], at: usize, b: u8) -> usize
 }
 
 // Reads a line, without its line feed; what does not fit is passed over. The input's end ends a line too, if that has a byte; else there is none
-// any more. No run has as many bytes as the loop may take.
-pub fn read_line<'a>(input: &mut impl Read, buf: &'a mut [u8]) -> Option<&'a [u8]> {
+// any more. The line is the front of `buf`. No run has as many bytes as the loop may take.
+pub fn read_line<'a>(input: &mut impl Read, buf: &'a mut [u8]) -> Option<&'a [u8]>
+    ensures { MatchOption result ⊤ (λ line. (line.ref_ptr ≡ buf.entry.ref_ptr) × (length line.now ≤ length buf.old)) }
+{
     let mut at = 0;
     // By number, which alone tells that the loop ends: what comes is no items.
     for _ in 0..u64::MAX {

@@ -20,7 +20,16 @@ impl<'a> Text<'a> {
         ensures place { result.at ≡ 0 }
         ensures buffer { result.out.ghost_name ≡ out.entry.ghost_name }
     {
-        Text { out, at: 0 }
+        Text::at(out, 0)
+    }
+
+    // The buffer from any place `at` on: what stands before it counts as text.
+    pub fn at(out: &'a mut [u8], at: usize) -> Text<'a>
+        ensures stored { result.out.now ≡ out.old }
+        ensures place { result.at ≡ at }
+        ensures buffer { result.out.ghost_name ≡ out.entry.ghost_name }
+    {
+        Text { out, at }
     }
 
     // The length of the text, with what the buffer had no room for.

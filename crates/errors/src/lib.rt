@@ -12,15 +12,28 @@ ghost use Rattle.errors.specs.Meaning.{queue_in, queue_out};
 use refusals::Refusal;
 use texts::Text;
 
+// The numbers of the six errors.
+pub const DATA_TYPE_ERROR: u16 = 104;
+
+pub const MISSING_PARAMETER: u16 = 109;
+
+pub const UNDEFINED_HEADER: u16 = 113;
+
+pub const EXECUTION_ERROR: u16 = 200;
+
+pub const DATA_OUT_OF_RANGE: u16 = 222;
+
+pub const QUEUE_OVERFLOW: u16 = 350;
+
 // The six errors.
 #[derive(Clone, Copy, Debug, PartialEq, Eq)]
 pub enum Error {
-    DataType = 104,
-    MissingParameter = 109,
-    UndefinedHeader = 113,
-    Execution = 200,
-    OutOfRange = 222,
-    QueueOverflow = 350,
+    DataType = DATA_TYPE_ERROR as isize,
+    MissingParameter = MISSING_PARAMETER as isize,
+    UndefinedHeader = UNDEFINED_HEADER as isize,
+    Execution = EXECUTION_ERROR as isize,
+    OutOfRange = DATA_OUT_OF_RANGE as isize,
+    QueueOverflow = QUEUE_OVERFLOW as isize,
 }
 
 // Its number, as include/pool.h has it.
@@ -45,12 +58,12 @@ impl TryFrom<u16> for Error {
     #[tactic(auto, unfolding(crate::specs::Errors::is_error))]
     fn try_from(n: u16) -> Result<Error, UnknownNumber> {
         match n {
-            104 => Ok(Error::DataType),
-            109 => Ok(Error::MissingParameter),
-            113 => Ok(Error::UndefinedHeader),
-            200 => Ok(Error::Execution),
-            222 => Ok(Error::OutOfRange),
-            350 => Ok(Error::QueueOverflow),
+            DATA_TYPE_ERROR => Ok(Error::DataType),
+            MISSING_PARAMETER => Ok(Error::MissingParameter),
+            UNDEFINED_HEADER => Ok(Error::UndefinedHeader),
+            EXECUTION_ERROR => Ok(Error::Execution),
+            DATA_OUT_OF_RANGE => Ok(Error::OutOfRange),
+            QUEUE_OVERFLOW => Ok(Error::QueueOverflow),
             _ => Err(UnknownNumber),
         }
     }

@@ -28,6 +28,7 @@ number_of R.Phase = 29
 number_of R.NoSetup = 31
 number_of R.SetupNumber = 32
 number_of R.SetupSize = 33
+number_of (R.Other o) = o.number
 
 -- The number of the refusal that a result is; none where the call is carried out.
 abbrev pub refusal_in : {T : Type 0} → Result T Refusal → Option ℕ

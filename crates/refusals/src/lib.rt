@@ -4,34 +4,40 @@
 ghost use Rattle.std.specs.Prelude.{◌≡◌};
 ghost use Rattle.refusals.specs.Number.{number_of, number_or_0};
 
+mod other; // a number that none of 01's refusals has
+
+pub use other::OtherNumber;
+
 #[derive(Clone, Copy, Debug, PartialEq, Eq)]
 pub enum Refusal {
     // From the input.
-    Shape = 1,
-    Length = 2,
-    NoHeader = 3,
-    HeadersDiffer = 4,
-    Address = 5,
-    Body = 6,
-    Range = 7,
-    LossList = 8,
-    Staging = 9,
-    Record = 10,
-    Pool = 11,
+    Shape,
+    Length,
+    NoHeader,
+    HeadersDiffer,
+    Address,
+    Body,
+    Range,
+    LossList,
+    Staging,
+    Record,
+    Pool,
     // From the state.
-    Sealed = 21,
-    NoLog = 22,
-    Broken = 23,
-    NoObject = 24,
-    Damaged = 25,
-    NoRoom = 26,
-    TooMany = 27,
-    TwoLost = 28,
-    Phase = 29,
+    Sealed,
+    NoLog,
+    Broken,
+    NoObject,
+    Damaged,
+    NoRoom,
+    TooMany,
+    TwoLost,
+    Phase,
     // From the set-ups.
-    NoSetup = 31,
-    SetupNumber = 32,
-    SetupSize = 33,
+    NoSetup,
+    SetupNumber,
+    SetupSize,
+    // Any other number: no call answers it, but a caller who makes an answer of its own may hand it in.
+    Other(OtherNumber),
 }
 
 impl Refusal {
@@ -40,7 +46,67 @@ impl Refusal {
     pub fn number(self) -> u8
         ensures { result ≡ number_of self }
     {
-        self as u8
+        match self {
+            Refusal::Shape => 1,
+            Refusal::Length => 2,
+            Refusal::NoHeader => 3,
+            Refusal::HeadersDiffer => 4,
+            Refusal::Address => 5,
+            Refusal::Body => 6,
+            Refusal::Range => 7,
+            Refusal::LossList => 8,
+            Refusal::Staging => 9,
+            Refusal::Record => 10,
+            Refusal::Pool => 11,
+            Refusal::Sealed => 21,
+            Refusal::NoLog => 22,
+            Refusal::Broken => 23,
+            Refusal::NoObject => 24,
+            Refusal::Damaged => 25,
+            Refusal::NoRoom => 26,
+            Refusal::TooMany => 27,
+            Refusal::TwoLost => 28,
+            Refusal::Phase => 29,
+            Refusal::NoSetup => 31,
+            Refusal::SetupNumber => 32,
+            Refusal::SetupSize => 33,
+            Refusal::Other(other) => other.number,
+        }
+    }
+}
+
+// The refusal of this number: each of the numbers 0 to 255 has one.
+impl From<u8> for Refusal {
+    ghost from_gives = { λ n r. number_of r ≡ n };
+
+    #[tactic(auto, unfolding(crate::specs::Listed::is_listed))]
+    fn from(n: u8) -> Refusal {
+        match n {
+            1 => Refusal::Shape,
+            2 => Refusal::Length,
+            3 => Refusal::NoHeader,
+            4 => Refusal::HeadersDiffer,
+            5 => Refusal::Address,
+            6 => Refusal::Body,
+            7 => Refusal::Range,
+            8 => Refusal::LossList,
+            9 => Refusal::Staging,
+            10 => Refusal::Record,
+            11 => Refusal::Pool,
+            21 => Refusal::Sealed,
+            22 => Refusal::NoLog,
+            23 => Refusal::Broken,
+            24 => Refusal::NoObject,
+            25 => Refusal::Damaged,
+            26 => Refusal::NoRoom,
+            27 => Refusal::TooMany,
+            28 => Refusal::TwoLost,
+            29 => Refusal::Phase,
+            31 => Refusal::NoSetup,
+            32 => Refusal::SetupNumber,
+            33 => Refusal::SetupSize,
+            number => Refusal::Other(OtherNumber { number }),
+        }
     }
 }
 

@@ -20,7 +20,9 @@ use Rattle.std.proofs.Common.{is_ok, Result, Ok, Err, MatchResult}
 use Rattle.std.specs.Result.{IsOkAnd}
 use Rattle.refusals.specs.declared.Refusal.{Refusal}
 use Rattle.refusals.specs.declared.Refusal.TheVariants as R
+use Rattle.refusals.specs.Listed.{is_listed}
 use Rattle.refusals.specs.Number.{number_of}
+use Rattle.refusals.proofs.Cases.{listed_own}
 use Rattle.answers.specs.declared.Answer.TheVariants.{Refused}
 use Rattle.answers.specs.Meaning.{answer_of, value_of}
 use Rattle.transaction.specs.declared.Transaction.{Transaction}
@@ -121,29 +123,8 @@ module _ (p : List ℕ) (room : ℕ) {x : TransactionStart} (e : x ≡ transacti
 
 -- 21 is no other refusal's number
 only-sealed : (x : Refusal) → (x ≡ R.Sealed → ⊥) → number_of x ≡ 21 → ⊥
-only-sealed R.Shape h e = omega arith
-only-sealed R.Length h e = omega arith
-only-sealed R.NoHeader h e = omega arith
-only-sealed R.HeadersDiffer h e = omega arith
-only-sealed R.Address h e = omega arith
-only-sealed R.Body h e = omega arith
-only-sealed R.Range h e = omega arith
-only-sealed R.LossList h e = omega arith
-only-sealed R.Staging h e = omega arith
-only-sealed R.Record h e = omega arith
-only-sealed R.Pool h e = omega arith
-only-sealed R.Sealed h e = h refl
-only-sealed R.NoLog h e = omega arith
-only-sealed R.Broken h e = omega arith
-only-sealed R.NoObject h e = omega arith
-only-sealed R.Damaged h e = omega arith
-only-sealed R.NoRoom h e = omega arith
-only-sealed R.TooMany h e = omega arith
-only-sealed R.TwoLost h e = omega arith
-only-sealed R.Phase h e = omega arith
-only-sealed R.NoSetup h e = omega arith
-only-sealed R.SetupNumber h e = omega arith
-only-sealed R.SetupSize h e = omega arith
+unfolding is_listed
+only-sealed x h e = h (listed_own R.Sealed x refl e)
 
 module _ (p : List ℕ) (room : ℕ) (h : room < staging_size) where
   pub begun-short : (r : Reply) → start_of r ≡ transaction_start p → (m : Result Reply Refusal) → Accepted r m → is_ok m ≡ true → refused_start 9 ≡ begun_in p room

@@ -6,7 +6,7 @@ use Rattle.pool.proofs.format.Goals as goal
 pub returns-in_err-s : goal.returns-in_err-s
 returns-in_err-s c =
     let p = err_from_is_err_and c.from_residual.result c.from_residual.ensures.1 in
-    rw (p.1, p.2) (format-range _ _ _ _ _ _ c.in_err-s.ensures.result_value)
+    rw (p.1, p.2) (format-range _ _ _ _ _ c.in_err-s.field-0.0 c.in_err-s.ensures.result_value)
 
 pub returns-then-id-eq0 : goal.returns-then-id-eq0
 returns-then-id-eq0 c = format-id _ _ _ _ _ c.if-id-eq0.true

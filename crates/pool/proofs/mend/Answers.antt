@@ -8,7 +8,7 @@ use Rattle.pool.proofs.mend.Goals as goal
 pub returns-in_err-s : goal.returns-in_err-s
 returns-in_err-s c =
     let p = err_from_is_err_and c.from_residual.result c.from_residual.ensures.1 in
-    rw (p.1, p.2) (mend-refused _ _ (sym c.in_err-s.ensures))
+    rw (p.1, p.2) (mend-refused _ c.in_err-s.field-0.0 (sym c.in_err-s.ensures))
 
 pub copy_header-requires : goal.copy_header-requires
 copy_header-requires c = open-shaped _ _ (sym c.in_ok-s.ensures)

@@ -10,7 +10,7 @@ use Rattle.pool.proofs.repair.Goals.{then-lost-s-via-then-lost-s, then-lost-s-vi
 pub returns-in_err-opened : goal.returns-in_err-opened
 returns-in_err-opened c =
     let p = err_from_is_err_and c.from_residual.result c.from_residual.ensures.1 in
-    rw (p.1, p.2) (repair-refused _ _ _ (sym c.in_err-opened.ensures.shape))
+    rw (p.1, p.2) (repair-refused _ _ c.in_err-opened.field-0.0 (sym c.in_err-opened.ensures.shape))
 
 pub overflow_mul-s : goal.overflow_mul-s
 overflow_mul-s c = omega (arith, columns-small c.args.pool.now c.in_ok-opened.opened.shape)

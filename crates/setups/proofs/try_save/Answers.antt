@@ -18,14 +18,14 @@ returns-then-body-ne-SIZE c = save-size _ _ _ _ c.in_ok-tag.ensures.1 c.if-body-
 pub returns-in_err-txn : goal.returns-in_err-txn
 returns-in_err-txn c =
     let p = err_from_is_err_and c.from_residual-in_err-txn.result c.from_residual-in_err-txn.ensures.1 in
-    rw (p.1, p.2) (save-unbegun _ _ _ _ c.in_ok-tag.ensures.1 c.if-body-ne-SIZE.false _ c.in_err-txn.ensures)
+    rw (p.1, p.2) (save-unbegun _ _ _ _ c.in_ok-tag.ensures.1 c.if-body-ne-SIZE.false c.in_err-txn.field-0.0 c.in_err-txn.ensures)
 
 pub returns-in_err-find : goal.returns-in_err-find
 returns-in_err-find c =
     let p = err_from_is_err_and c.from_residual-in_err-find.result c.from_residual-in_err-find.ensures.1 in
     let t = c.in_ok-tag.ensures in
     rw (p.1, p.2)
-    (save-spot-refused _ _ _ _ t.1 c.if-body-ne-SIZE.false c.in_ok-txn.txn c.in_ok-txn.ensures _ (ap (spot c.args.pool.now) (sym t.0) ∙ sym c.in_err-find.ensures.0))
+    (save-spot-refused _ _ _ _ t.1 c.if-body-ne-SIZE.false c.in_ok-txn.txn c.in_ok-txn.ensures c.in_err-find.field-0.0 (ap (spot c.args.pool.now) (sym t.0) ∙ sym c.in_err-find.ensures.0))
 
 pub returns-in-None : goal.returns-in-None
 returns-in-None c =

@@ -7,7 +7,7 @@ use Rattle.zones.proofs.body_at.Goals as goal
 pub returns-in_err-object : goal.returns-in_err-object
 returns-in_err-object c =
     let p = err_from_is_err_and c.from_residual.result c.from_residual.ensures.1 in
-    rw (p.1, p.2) (body_refused c.args.pool.now c.committed.ensures.shape c.committed.ensures.view c.args.a _ c.in_err-object.ensures, tt)
+    rw (p.1, p.2) (body_refused c.args.pool.now c.committed.ensures.shape c.committed.ensures.view c.args.a c.in_err-object.field-0.0 c.in_err-object.ensures, tt)
 
 pub head_at-requires : goal.head_at-requires
 head_at-requires c = body_below c.args.pool.now c.committed.ensures.shape c.committed.ensures.view c.args.a _ c.in_ok-object.ensures

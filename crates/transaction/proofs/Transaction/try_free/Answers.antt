@@ -9,7 +9,7 @@ use Rattle.transaction.proofs.Transaction.try_free.Goals as goal
 pub returns-in_err-pool : goal.returns-in_err-pool
 returns-in_err-pool c =
     let p = err_from_is_err_and c.from_residual.result c.from_residual.ensures.1 in
-    rw (p.1, p.2) (refused-back _ _ _ (call-meets _ _) _ (answer-refused _ _ _ (sym c.in_err-pool.ensures.shape)))
+    rw (p.1, p.2) (refused-back _ _ _ (call-meets _ _) c.in_err-pool.field-0.0 (answer-refused _ _ _ (sym c.in_err-pool.ensures.shape)))
 
 pub free-requires : goal.free-requires
 free-requires c =

@@ -11,7 +11,7 @@ use Rattle.transaction.proofs.Transaction.try_step.Goals as goal
 pub returns-in_err-s : goal.returns-in_err-s
 returns-in_err-s c =
     let p = err_from_is_err_and c.from_residual.result c.from_residual.ensures.1 in
-    rw (p.1, p.2) (refused-back _ _ _ (step-meets _).2 _ (answer-refused _ _ _ (sym c.in_err-s.ensures)))
+    rw (p.1, p.2) (refused-back _ _ _ (step-meets _).2 c.in_err-s.field-0.0 (answer-refused _ _ _ (sym c.in_err-s.ensures)))
 
 pub step-requires : goal.step-requires
 step-requires c =

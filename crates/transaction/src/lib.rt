@@ -86,7 +86,6 @@ fn judge(pool: &[u8], staging: &[u8], txn: Record) -> Result<Shape, Refusal>
 
 // The pool for a call that stages words or starts a commit, or the first of these and then 29, 21. Not one function with `judge`: a step stores into the
 // pool, which a `Pool` would lend.
-#[inline(always)] // as `judge`
 fn ready<'a>(bytes: &'a [u8], staging: &[u8], txn: Record) -> Result<Pool<'a>, Refusal>
     ensures shape { opened_of result ≡ answer (first (record_tests (given bytes.now staging.now txn) ++ live_tests (given bytes.now staging.now txn))) (shape_in bytes.now) }
     ensures bytes { IfOk result (λ p. p.bytes.now ≡ bytes.now) }

@@ -1,0 +1,5 @@
+pub mod Numbers
+pub mod Tests
+pub mod Parts
+pub mod Calls
+pub mod Callers
